@@ -1,0 +1,88 @@
+-- The limited forms: a normal-form result of more than 255 tree nodes, also of a part on the way, is Long.
+-- On the way stand the results of all parts that are worked out, each in normal form; LimitedLaws says exactly when Long comes.
+use Prim.Native.Nat.{ℕ}
+use mathlib.Core.Bool.{Bool, true, false, cond, _&&_}
+use mathlib.Core.List.{List, [], _∷_, _++_}
+use lib.Dec.{leb}
+use Rattle.number.specs.Limits.{treeNodes}
+use Rattle.meaning.specs.Re.{Re, size}
+use Rattle.meaning.specs.Re.Re.{Nothing, Empty, Range, Cat, Alt, Star}
+use Rattle.meaning.specs.Normal.{cat, alt, star, normal}
+use Rattle.meaning.specs.Derive.{nullable, deriv}
+
+-- a result, or that one was too long
+pub data Fit : Type 0 where
+  Long : Fit
+  Fits : Re → Fit
+
+infixl 20 _>>=_
+abbrev pub _>>=_ : Fit → (Re → Fit) → Fit
+Long >>= f = Long
+Fits r >>= f = f r
+
+-- whether a result has few enough nodes
+abbrev pub short : Re → Bool
+short r = leb (size r) treeNodes
+
+abbrev pub fit : Re → Fit
+fit r = cond (short r) (Fits r) Long
+
+unfoldable pub derivFit : ℕ → Re → Fit
+derivFit c Nothing = Fits Nothing
+derivFit c Empty = Fits Nothing
+derivFit c (Range lo hi) = Fits (deriv c (Range lo hi))
+derivFit c (Cat a b) = do
+  da ← derivFit c a
+  left ← fit (cat da b)
+  elim (nullable a) [
+    | true ↦ do
+      db ← derivFit c b
+      fit (alt left db)
+    | false ↦ Fits left
+  ]
+derivFit c (Alt a b) = do
+  da ← derivFit c a
+  db ← derivFit c b
+  fit (alt da db)
+derivFit c (Star a) = do
+  da ← derivFit c a
+  fit (cat da (Star a))
+
+unfoldable pub normalFit : Re → Fit
+normalFit Nothing = Fits Nothing
+normalFit Empty = Fits Empty
+normalFit (Range lo hi) = Fits (Range lo hi)
+normalFit (Cat a b) = do
+  na ← normalFit a
+  nb ← normalFit b
+  fit (cat na nb)
+normalFit (Alt a b) = do
+  na ← normalFit a
+  nb ← normalFit b
+  fit (alt na nb)
+normalFit (Star a) = do
+  na ← normalFit a
+  fit (star na)
+
+-- the results on the way to a derivative, its own last
+unfoldable pub derivResults : ℕ → Re → List Re
+derivResults c Nothing = deriv c Nothing ∷ []
+derivResults c Empty = deriv c Empty ∷ []
+derivResults c (Range lo hi) = deriv c (Range lo hi) ∷ []
+derivResults c (Cat a b) = derivResults c a ++ (cat (deriv c a) b ∷ cond (nullable a) (derivResults c b ++ (deriv c (Cat a b) ∷ [])) [])
+derivResults c (Alt a b) = derivResults c a ++ (derivResults c b ++ (deriv c (Alt a b) ∷ []))
+derivResults c (Star a) = derivResults c a ++ (deriv c (Star a) ∷ [])
+
+-- the results on the way to a normal form, its own last
+unfoldable pub normalResults : Re → List Re
+normalResults Nothing = Nothing ∷ []
+normalResults Empty = Empty ∷ []
+normalResults (Range lo hi) = Range lo hi ∷ []
+normalResults (Cat a b) = normalResults a ++ (normalResults b ++ (normal (Cat a b) ∷ []))
+normalResults (Alt a b) = normalResults a ++ (normalResults b ++ (normal (Alt a b) ∷ []))
+normalResults (Star a) = normalResults a ++ (normal (Star a) ∷ [])
+
+-- each of them is short enough
+unfoldable pub allShort : List Re → Bool
+allShort [] = true
+allShort (r ∷ rs) = short r && allShort rs

@@ -1,0 +1,45 @@
+-- The shape of a choice in normal form: its members rise strictly in the order of terms, so each stands there once.
+-- Meaning alone would let a choice keep its members unsorted or doubled; this does not.
+use Prim.Native.Nat.{ℕ, Ordering, Ordering·lt, Ordering·eq, Ordering·gt}
+use mathlib.Core.Path.{_≡_, refl, ap, _∙_}
+use mathlib.Core.List.{List, [], _∷_}
+use Rattle.meaning.specs.Re.{Re}
+use Rattle.meaning.specs.Order.{order}
+use Rattle.meaning.specs.OrderLaws.{turned, order-turned}
+use Rattle.meaning.specs.Normal.{placed, sorted}
+
+-- x stands before the first of a list, if there is one
+abbrev pub Before : Re → List Re → Type 0
+Before x [] = Unit
+Before x (y ∷ ys) = order x y ≡ Ordering·lt
+
+-- each stands before the next
+abbrev pub Rising : List Re → Type 0
+Rising [] = Unit
+Rising (x ∷ xs) = Before x xs × Rising xs
+
+-- a member put in its place stands behind what was before it
+placed-before : (z x : Re) (ys : List Re) → order z x ≡ Ordering·lt → Before z ys → Before z (placed x ys)
+unfolding placed
+placed-before z x [] h b = h
+placed-before z x (y ∷ ys) h b = go (order x y) refl
+  where
+    go : (o : Ordering) → order x y ≡ o → Before z (placed x (y ∷ ys))
+    go Ordering·lt e = rw (e, placed) h
+    go Ordering·eq e = rw (e, placed) b
+    go Ordering·gt e = rw (e, placed) b
+
+pub placed-rising : (x : Re) (ys : List Re) → Rising ys → Rising (placed x ys)
+unfolding placed
+placed-rising x [] r = (tt, tt)
+placed-rising x (y ∷ ys) r = go (order x y) refl (placed-rising x ys (r .1))
+  where
+    go : (o : Ordering) → order x y ≡ o → Rising (placed x ys) → Rising (placed x (y ∷ ys))
+    go Ordering·lt e ih = rw (e, placed) (e, r)
+    go Ordering·eq e ih = rw (e, placed) r
+    go Ordering·gt e ih = rw (e, placed) (placed-before y x ys (order-turned x y ∙ ap turned e) (r .0), ih)
+
+pub sorted-rising : (xs : List Re) → Rising (sorted xs)
+unfolding sorted
+sorted-rising [] = tt
+sorted-rising (x ∷ xs) = placed-rising x (sorted xs) (sorted-rising xs)

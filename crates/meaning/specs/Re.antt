@@ -1,0 +1,43 @@
+-- Regular expressions, as source document 000 (1.3.3) has them, with a range of bytes for a single letter.
+-- Also a text, the size of an expression as a tree, and the tests that the normal form asks.
+use Prim.Native.Nat.{ℕ, _+_}
+use mathlib.Core.Bool.{Bool, true, false}
+use mathlib.Core.List.{List}
+
+-- a text is a list of bytes
+abbrev pub Text : Type 0
+Text = List ℕ
+
+-- an expression; a book's Either is the Alt of two ranges, so it is none of these
+pub data Re : Type 0 where
+  Nothing : Re
+  Empty : Re
+  Range : ℕ → ℕ → Re
+  Cat : Re → Re → Re
+  Alt : Re → Re → Re
+  Star : Re → Re
+
+-- the number of its tree's nodes
+unfoldable pub size : Re → ℕ
+size Nothing = 1
+size Empty = 1
+size (Range lo hi) = 1
+size (Cat a b) = 1 + size a + size b
+size (Alt a b) = 1 + size a + size b
+size (Star a) = 1 + size a
+
+abbrev pub isNothing : Re → Bool
+isNothing Nothing = true
+isNothing Empty = false
+isNothing (Range lo hi) = false
+isNothing (Cat a b) = false
+isNothing (Alt a b) = false
+isNothing (Star a) = false
+
+abbrev pub isEmpty : Re → Bool
+isEmpty Nothing = false
+isEmpty Empty = true
+isEmpty (Range lo hi) = false
+isEmpty (Cat a b) = false
+isEmpty (Alt a b) = false
+isEmpty (Star a) = false

@@ -1,0 +1,84 @@
+-- Every number that document 01 fixes, once: a definition or a promise that needs one names it here.
+-- src/limits.rt holds the same numbers for the code; a proof that crosses from one to the other fails if they differ.
+use Prim.Native.Nat.{ℕ, _*_}
+
+-- numbers in files: what one group of seven bits can hold, and two, and three, which is the most there are
+abbrev pub group : ℕ
+group = 128
+
+abbrev pub twoGroups : ℕ
+twoGroups = group * group
+
+abbrev pub threeGroups : ℕ
+threeGroups = group * group * group
+
+-- the only version of a book and of a sheet
+abbrev pub version : ℕ
+version = 1
+
+abbrev pub lastVersion : ℕ
+lastVersion = version
+
+-- rule books: rules of a book, the largest kind, nodes of all rules together, the last node code of a version
+abbrev pub rules : ℕ
+rules = 32
+
+abbrev pub kinds : ℕ
+kinds = 16383
+
+abbrev pub nodes : ℕ
+nodes = 512
+
+abbrev pub lastCode : ℕ → ℕ
+lastCode v = 6
+
+-- bytes: how many there are, and the largest
+abbrev pub bytes : ℕ
+bytes = 256
+
+abbrev pub lastByte : ℕ
+lastByte = 255
+
+-- Either stands for a letter from a to z, and the capital stands this much below it
+abbrev pub firstLetter : ℕ
+firstLetter = 97
+
+abbrev pub lastLetter : ℕ
+lastLetter = 122
+
+abbrev pub capital : ℕ
+capital = 32
+
+-- tables: states of a table, and so of a sheet, and the cells that its targets fill
+abbrev pub states : ℕ
+states = 128
+
+abbrev pub tableCells : ℕ
+tableCells = states * bytes
+
+-- the walk: tree nodes of a normal-form result, distinct terms of the held vectors, held pairs, bytes of a shown text
+abbrev pub treeNodes : ℕ
+treeNodes = 255
+
+abbrev pub pool : ℕ
+pool = 1024
+
+abbrev pub pairs : ℕ
+pairs = 256
+
+abbrev pub shownText : ℕ
+shownText = 256
+
+-- lent work areas: the most cells that a call may ask for
+abbrev pub workCells : ℕ
+workCells = 65536
+
+-- programs: bytes of a rule book's file, of standard input and of a sheet's file
+abbrev pub bookFile : ℕ
+bookFile = 4096
+
+abbrev pub textFile : ℕ
+textFile = 32768
+
+abbrev pub sheetFile : ℕ
+sheetFile = 65536

@@ -1,0 +1,57 @@
+-- Numbers in files: groups of seven bits, least first, one byte a group, the high bit on every group but the last.
+-- At most three groups, and the shortest form only: the last of two or three groups is not 0.
+use Prim.Native.Nat.{ℕ, _+_, _*_, _/_, _%_, _<_}
+use mathlib.Core.Bool.{cond}
+use mathlib.Core.List.{List, [], _∷_}
+use lib.Dec.{ltb, eqb}
+use lib.ListN.{length, getD}
+use Rattle.number.specs.declared.Refusal.the-variants.{Short, Number, Range}
+use Rattle.number.specs.declared.Taken.{Taken}
+use Rattle.number.specs.declared.Taken.the-variants.{Value, Refused}
+use Rattle.number.specs.Limits.{group, twoGroups, bytes}
+use Rattle.number.specs.Refused.{Answer}
+use Rattle.number.specs.Refused.Answer.{got, refused}
+
+-- what a file holds: every element is a byte
+abbrev pub Bytes : List ℕ → Type 0
+Bytes s = (i : ℕ) → i < length s → getD s i 0 < bytes
+
+-- the code's answer as the paper has it
+abbrev pub taken : Taken → Answer ℕ
+taken (Value value next) = got value next
+taken (Refused r) = refused r
+
+-- a byte of a number that starts at `at` is due at `here`: go on with it, or the input is short
+unfoldable pub due : List ℕ → ℕ → ℕ → (ℕ → Answer ℕ) → Answer ℕ
+due s at here onward = cond (ltb here (length s)) (onward (getD s here 0)) (refused (Short at))
+
+-- the last of several groups is not 0
+unfoldable pub several : ℕ → ℕ → Answer ℕ → Answer ℕ
+several at last answer = cond (eqb last 0) (refused (Number at)) answer
+
+-- the number that starts at `at`: one group, or two, or three; a third group does not go on
+unfoldable pub readNumber : List ℕ → ℕ → Answer ℕ
+readNumber s at =
+    due s at at λ a.
+    cond (ltb a group) (got a (at + 1))
+    (due s at (at + 1) λ b.
+    cond (ltb b group) (several at b (got (a % group + group * b) (at + 2)))
+    (due s at (at + 2) λ c.
+    cond (ltb c group) (several at c (got (a % group + group * (b % group) + twoGroups * c) (at + 3)))
+    (refused (Number at))))
+
+-- a value outside its field is refused at the number's own place
+unfoldable pub within : ℕ → ℕ → ℕ → Answer ℕ → Answer ℕ
+within at lo hi (got value next) = cond (ltb value lo) (refused (Range at)) (cond (ltb hi value) (refused (Range at)) (got value next))
+within at lo hi (refused r) = refused r
+
+-- a field of a file: a number from lo to hi; within a number the order is Short, Number, Range
+unfoldable pub field : List ℕ → ℕ → ℕ → ℕ → Answer ℕ
+field s lo hi at = within at lo hi (readNumber s at)
+
+-- the bytes of a number below the limit of three groups
+unfoldable pub writeNumber : ℕ → List ℕ
+writeNumber n =
+    cond (ltb n group) (n ∷ [])
+    (cond (ltb n twoGroups) ((group + n % group) ∷ (n / group) ∷ [])
+    ((group + n % group) ∷ (group + n / group % group) ∷ (n / twoGroups) ∷ []))

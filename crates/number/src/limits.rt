@@ -1,0 +1,54 @@
+// Every number that document 01 fixes, once, for the code; specs/Limits.antt holds the same for the definitions.
+// A contract is stated with those and met with these, so the two cannot drift apart where a proof uses them.
+
+// Numbers in files: what one group of seven bits can hold, and two, and three, which is the most there are.
+pub const GROUP: usize = 128;
+
+pub const TWO_GROUPS: usize = GROUP * GROUP;
+
+pub const THREE_GROUPS: usize = GROUP * GROUP * GROUP;
+
+// The only version of a book and of a sheet.
+pub const VERSION: usize = 1;
+
+// Rule books: rules of a book, the largest kind, nodes of all rules together, the last node code.
+pub const RULES: usize = 32;
+
+pub const KINDS: usize = 16383;
+
+pub const NODES: usize = 512;
+
+pub const LAST_CODE: usize = 6;
+
+// Bytes: how many there are, and the largest.
+pub const BYTES: usize = 256;
+
+pub const LAST_BYTE: usize = 255;
+
+// Either stands for a letter from a to z, and the capital stands this much below it.
+pub const FIRST_LETTER: usize = 97;
+
+pub const LAST_LETTER: usize = 122;
+
+pub const CAPITAL: usize = 32;
+
+// Tables: states of a table, and the cells that its targets fill.
+pub const STATES: usize = 128;
+
+pub const TABLE_CELLS: usize = STATES * BYTES;
+
+// The walk: tree nodes of a normal-form result, distinct terms of the held vectors, held pairs, bytes of a shown text.
+pub const TREE_NODES: usize = 255;
+
+pub const POOL: usize = 1024;
+
+pub const PAIRS: usize = 256;
+
+pub const SHOWN_TEXT: usize = 256;
+
+// Programs: bytes of a rule book's file, of standard input and of a sheet's file.
+pub const BOOK_FILE: usize = 4096;
+
+pub const TEXT_FILE: usize = 32768;
+
+pub const SHEET_FILE: usize = 65536;

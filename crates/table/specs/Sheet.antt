@@ -1,0 +1,88 @@
+-- A sheet: how a table is read from bytes and written to them, as document 01 has it.
+-- Reading refuses what is wrong at its place; writing gives each row its runs, each as long as it can be.
+use Prim.Native.Nat.{ℕ, zero, suc, _+_, _-_}
+use mathlib.Core.Bool.{Bool, true, false, cond}
+use mathlib.Core.List.{List, [], _∷_, _++_}
+use lib.Dec.{ltb, eqb}
+use lib.ListN.{length, take, drop, replicate}
+use Rattle.number.specs.declared.Refusal.the-variants.{Runs}
+use Rattle.number.specs.Limits.{version, rules, states, bytes}
+use Rattle.number.specs.Refused.{Answer}
+use Rattle.number.specs.Numbers.{field, writeNumber}
+use Rattle.number.specs.Reading.{Reader, _>>=_, _>>_, answer, here, refuseIf, end}
+use Rattle.table.specs.Table.{Table}
+
+-- the states that are still to come: their labels and their targets
+pub record Rows : Type 0 where
+  pub labels : List ℕ
+  pub targets : List ℕ
+
+module _ (file : List ℕ) where
+  -- k runs more of a state, in a sheet of s states: `sum` bytes are covered, `last` is the target of the run before, or s, which is none
+  unfoldable pub readRuns : ℕ → ℕ → ℕ → ℕ → Reader (List ℕ)
+  readRuns s zero sum last = do
+    after ← here
+    refuseIf (ltb sum bytes) (Runs after)
+    answer []
+  readRuns s (suc k) sum last = do
+    atLength ← here
+    len ← field file 1 bytes
+    refuseIf (ltb bytes (sum + len)) (Runs atLength)
+    atTarget ← here
+    target ← field file 0 (s - 1)
+    refuseIf (eqb target last) (Runs atTarget)
+    rest ← readRuns s k (sum + len) target
+    answer (replicate len target ++ rest)
+
+  -- k states more of a sheet of s states
+  unfoldable pub readStates : ℕ → ℕ → Reader Rows
+  readStates s zero = answer (record { labels = []; targets = [] })
+  readStates s (suc k) = do
+    label ← field file 0 rules
+    m ← field file 1 bytes
+    row ← readRuns s m 0 s
+    rest ← readStates s k
+    answer (record { labels = label ∷ rest .labels; targets = row ++ rest .targets })
+
+  -- version, state count, the states; nothing follows
+  unfoldable pub sheet : Reader Table
+  sheet = do
+    field file version version
+    s ← field file 1 states
+    rows ← readStates s s
+    end file
+    answer (record { count = s; labels = rows .labels; targets = rows .targets })
+
+  -- a whole file
+  abbrev pub readSheet : Answer Table
+  readSheet = sheet 0
+
+-- a run: so many bytes with one target
+pub record Run : Type 0 where
+  pub len : ℕ
+  pub target : ℕ
+
+-- one byte more in front: it joins the run behind it where the target is the same
+unfoldable pub joined : ℕ → List Run → List Run
+joined t [] = record { len = 1; target = t } ∷ []
+joined t (r ∷ rs) = cond (eqb t (r .target)) (record { len = suc (r .len); target = t } ∷ rs) (record { len = 1; target = t } ∷ r ∷ rs)
+
+-- the runs of a row
+unfoldable pub runsOf : List ℕ → List Run
+runsOf [] = []
+runsOf (t ∷ ts) = joined t (runsOf ts)
+
+unfoldable pub writeRuns : List Run → List ℕ
+writeRuns [] = []
+writeRuns (r ∷ rs) = writeNumber (r .len) ++ (writeNumber (r .target) ++ writeRuns rs)
+
+unfoldable pub writeRow : List ℕ → List ℕ
+writeRow row = writeNumber (length (runsOf row)) ++ writeRuns (runsOf row)
+
+-- a state: its label, then its row
+unfoldable pub writeStates : List ℕ → List ℕ → List ℕ
+writeStates [] targets = []
+writeStates (l ∷ ls) targets = writeNumber l ++ (writeRow (take bytes targets) ++ writeStates ls (drop bytes targets))
+
+unfoldable pub writeSheet : Table → List ℕ
+writeSheet t = writeNumber version ++ (writeNumber (t .count) ++ writeStates (t .labels) (t .targets))
