@@ -1,4 +1,4 @@
--- Rule books. Definitions, in reading order: Book, Reads, Valid, Expression, Calls, Sample; the other files prove things of these.
+-- Rule books. Definitions, in reading order: Book, Reads, Valid, Expression, Calls, Sample, Places, Answers; the other files prove things of these.
 -- Main gathers the theorems that are bought.
 pub mod Book
 pub mod Reads
@@ -6,3 +6,15 @@ pub mod Valid
 pub mod Expression
 pub mod Calls
 pub mod Sample
+pub mod Places
+pub mod Answers
+pub mod ReadLawsSteps
+pub mod ReadLawsWritten
+pub mod ReadLawsRead
+pub mod ReadLaws
+pub mod ReadLawsPlaces
+pub mod AnswerLaws
+pub mod CodeLaws
+pub mod PlaceLaws
+pub mod ExpressionLaws
+pub mod Main

@@ -1,4 +1,4 @@
--- What word rules mean. Definitions, in reading order: Text, Re, Lang, Means, Order, Normal, Derive, Limited, Rules, Words, Sample.
+-- What word rules mean. Definitions, in reading order: Text, Re, Lang, Means, Order, Normal, Derive, Limited, Rules, Words, Sample, Shape, Edges.
 -- The other files prove things of these; Main gathers the theorems that are bought.
 pub mod Re
 pub mod Lang
@@ -21,4 +21,9 @@ pub mod WordsMean
 pub mod Sample
 pub mod SampleTests
 pub mod SampleHolds
+pub mod Shape
+pub mod ShapeLaws
+pub mod SizeLaws
+pub mod Edges
+pub mod EdgeLaws
 pub mod Main

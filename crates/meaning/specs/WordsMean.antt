@@ -35,11 +35,11 @@ module _ (N : Text → ℕ → Type 0) (only : (w : Text) (l m : ℕ) → N w l 
         ]
       ]
 
--- alike labels give alike words
-module _ (N M : Text → ℕ → Type 0) (same : (w : Text) (l : ℕ) → N w l → M w l) (text : Text) where
+-- labels that are alike on every prefix give alike words
+module _ (N M : Text → ℕ → Type 0) (text : Text) (same : (m l : ℕ) → N (take m text) l → M (take m text) l) where
   pub first-alike : (f : Found) → First N text f → First M text f
-  first-alike Stuck p = λ m h k. same (take m text) 0 (p m h k)
-  first-alike (Word n r) p = (p .0, p .1, same (take n text) (suc r) (p .2), λ m h k. same (take m text) 0 (p .3 m h k))
+  first-alike Stuck p = λ m h k. same m 0 (p m h k)
+  first-alike (Word n r) p = (p .0, p .1, same n (suc r) (p .2), λ m h k. same m 0 (p .3 m h k))
 
 -- one more byte
 length-more : (p : Text) (c : ℕ) → length (p ++ (c ∷ [])) ≡ suc (length p)

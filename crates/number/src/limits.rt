@@ -52,3 +52,6 @@ pub const BOOK_FILE: usize = 4096;
 pub const TEXT_FILE: usize = 32768;
 
 pub const SHEET_FILE: usize = 65536;
+
+// Lent work areas: the most cells that a call may ask for, so that a cell's number fits sixteen bits.
+pub const WORK_CELLS: usize = 65536;

@@ -1,5 +1,18 @@
--- Tables and sheets. Definitions, in reading order: Table, Sheet, Calls; the other files prove things of these.
+-- Tables and sheets. Definitions, in reading order: Table, Sheet, Calls, Formed, Promises; the other files prove things of these.
 -- Main gathers the theorems that are bought.
 pub mod Table
 pub mod Sheet
 pub mod Calls
+pub mod Formed
+pub mod Promises
+pub mod SheetFormed
+pub mod SheetRuns
+pub mod SheetLaws
+pub mod SheetBytes
+pub mod SheetCalls
+pub mod TableLaws
+pub mod WritingLaws
+pub mod WriteLaws
+pub mod ReadingLaws
+pub mod LoadLaws
+pub mod Main

@@ -1,0 +1,111 @@
+-- The stack machine of Expression never runs dry on a valid rule and ends with one term, which is the rule's expression.
+-- Also how large that expression is as a tree: an Either makes three nodes of one, every other node makes one.
+use Prim.Native.Nat.{ℕ, _+_, _-_, _*_, _≤_}
+use native.Mathlib.Omega.{arith}
+use mathlib.Core.Path.{_≡_, refl, ap, _∙_}
+use mathlib.Core.List.{List, [], _∷_}
+use lib.ListN.{length, getD, List·getD-map}
+use Rattle.meaning.specs.Re.{Re, size}
+use Rattle.book.specs.declared.Node.{Node}
+use Rattle.book.specs.declared.Node.the-variants.{Nothing, Empty, Range, Cat, Alt, Star, Either}
+use Rattle.book.specs.Book.{Rule, Book, takes}
+use Rattle.book.specs.Valid.{Leaves, ValidRule}
+use Rattle.book.specs.Expression.{one, two, stacked, run, top, expression, meant}
+use Rattle.book.specs.Places.{noRule, ruleOf}
+
+-- ---- one term is left
+
+one-length : (f : Re → Re) (stack : List Re) → 1 ≤ length stack → length (one f stack) ≡ length stack
+one-length f [] h = refl
+one-length f (a ∷ stack) h = refl
+
+two-length : (f : Re → Re → Re) (stack : List Re) → 2 ≤ length stack → length (two f stack) ≡ length stack - 2 + 1
+two-length f [] h = absurd (omega arith)
+two-length f (b ∷ []) h = absurd (omega arith)
+two-length f (b ∷ a ∷ stack) h = omega arith
+
+pub stacked-length : (n : Node) (stack : List Re) → takes n ≤ length stack → length (stacked n stack) ≡ length stack - takes n + 1
+unfolding stacked
+stacked-length Nothing stack h = omega arith
+stacked-length Empty stack h = omega arith
+stacked-length (Range lo hi) stack h = omega arith
+stacked-length Cat stack h = two-length Re.Cat stack h
+stacked-length Alt stack h = two-length Re.Alt stack h
+stacked-length Star stack h = omega (arith, one-length Re.Star stack h)
+stacked-length (Either x) stack h = omega arith
+
+pub run-length : (ns : List Node) (stack : List Re) (terms : ℕ) → Leaves terms ns → length stack ≡ terms → length (run ns stack) ≡ 1
+unfolding run
+run-length [] stack terms h e = e ∙ h
+run-length (n ∷ ns) stack terms h e =
+    let enough : takes n ≤ length stack = omega (arith, h .1) in
+    let after : length (stacked n stack) ≡ terms - takes n + 1 = rw (← e) (stacked-length n stack enough) in
+    run-length ns (stacked n stack) (terms - takes n + 1) (h .2) after
+
+top-alone : (stack : List Re) → length stack ≡ 1 → stack ≡ top stack ∷ []
+top-alone [] e = absurd (omega arith)
+top-alone (a ∷ []) e = refl
+top-alone (a ∷ b ∷ stack) e = absurd (omega arith)
+
+pub run-whole : (r : Rule) → ValidRule r → run (r .nodes) [] ≡ expression r ∷ []
+run-whole r h = top-alone (run (r .nodes) []) (run-length (r .nodes) [] 0 (h .leaves) refl)
+
+-- ---- its size
+
+-- of all terms of a stack together
+unfoldable pub sizes : List Re → ℕ
+sizes [] = 0
+sizes (a ∷ stack) = size a + sizes stack
+
+one-sizes : (stack : List Re) → sizes (one Re.Star stack) + length stack ≤ sizes stack + 2 + length (one Re.Star stack)
+unfolding sizes size
+one-sizes [] = omega arith
+one-sizes (a ∷ stack) = omega arith
+
+cat-sizes : (stack : List Re) → sizes (two Re.Cat stack) + length stack ≤ sizes stack + 2 + length (two Re.Cat stack)
+unfolding sizes size
+cat-sizes [] = omega arith
+cat-sizes (b ∷ []) = omega arith
+cat-sizes (b ∷ a ∷ stack) = omega arith
+
+alt-sizes : (stack : List Re) → sizes (two Re.Alt stack) + length stack ≤ sizes stack + 2 + length (two Re.Alt stack)
+unfolding sizes size
+alt-sizes [] = omega arith
+alt-sizes (b ∷ []) = omega arith
+alt-sizes (b ∷ a ∷ stack) = omega arith
+
+-- a node adds at most two to the sizes for itself, and one more for each term that it adds to the stack
+stacked-sizes : (n : Node) (stack : List Re) → sizes (stacked n stack) + length stack ≤ sizes stack + 2 + length (stacked n stack)
+unfolding stacked sizes size
+stacked-sizes Nothing stack = omega arith
+stacked-sizes Empty stack = omega arith
+stacked-sizes (Range lo hi) stack = omega arith
+stacked-sizes Cat stack = cat-sizes stack
+stacked-sizes Alt stack = alt-sizes stack
+stacked-sizes Star stack = one-sizes stack
+stacked-sizes (Either x) stack = omega arith
+
+pub run-sizes : (ns : List Node) (stack : List Re)
+    → sizes (run ns stack) + length stack ≤ sizes stack + 2 * length ns + length (run ns stack)
+unfolding run
+run-sizes [] stack = omega arith
+run-sizes (n ∷ ns) stack = omega (arith, stacked-sizes n stack, run-sizes ns (stacked n stack))
+
+-- half of a rule's nodes, and one, can be leaves, so the expression has at most twice as many nodes, and one
+pub expression-size : (r : Rule) → ValidRule r → size (expression r) ≤ 2 * length (r .nodes) + 1
+unfolding sizes
+expression-size r h =
+    let whole : run (r .nodes) [] ≡ expression r ∷ [] = run-whole r h in
+    let bound = run-sizes (r .nodes) [] in
+    let all : sizes (run (r .nodes) []) ≡ size (expression r) + 0 = ap sizes whole in
+    let left : length (run (r .nodes) []) ≡ 1 = ap length whole in
+    omega arith
+
+pub expression-small : (r : Rule) → ValidRule r → size (expression r) ≤ 3 * length (r .nodes)
+expression-small r h = omega (arith, expression-size r h, h .some)
+
+-- ---- a book's row of expressions, rule by rule
+
+pub meant-at : (b : Book) (i : ℕ) → getD (meant b) i Re.Nothing ≡ expression (ruleOf b i)
+unfolding run
+meant-at b i = List·getD-map expression (b .rules) i noRule

@@ -1,0 +1,141 @@
+-- Steps that every law of a reader takes: on past an answer, and on past bytes that stand at a place.
+-- Nothing here knows of books; what is proved of a reader is a claim about its answer, the refused one included.
+use Prim.Native.Nat.{ℕ, _+_, _≤_}
+use native.Mathlib.Omega.{arith}
+use mathlib.Core.Path.{_≡_, refl, sym, ap, _∙_}
+use mathlib.Core.Logic.{_⊎_, inl, inr}
+use mathlib.Core.Bool.{Bool, true, false, cond}
+use mathlib.Core.List.{List, [], _++_, append-assoc}
+use lib.Dec.{eqb}
+use lib.ListN.{length, drop, length-append}
+use Rattle.number.specs.declared.Refusal.{Refusal}
+use Rattle.number.specs.declared.Refusal.the-variants.{Short, Number, Range}
+use Rattle.number.specs.Refused.{Answer, number, place}
+use Rattle.number.specs.Refused.Answer.{got, refused}
+use Rattle.number.specs.Numbers.{Bytes, several, readNumber, writeNumber, field}
+use Rattle.number.specs.Reading.{Reader, onward}
+use Rattle.number.specs.Branch.{by-cond}
+use Rattle.number.specs.Lists.{drop-past}
+use Rattle.number.specs.NumberLaws.{Way, read-way, written-read, field-read, field-refusal}
+use Rattle.number.specs.NumberLaws.Way.{none, one, half, two, most, three, over}
+
+-- a refusal is not something got
+pub clash : {A : Type 0} {r : Refusal} {x : A} {next : ℕ} → _≡_ {A = Answer A} (refused r) (got x next) → ⊥
+clash e = let z : _≡_ {A = ℕ} 0 1 = cc in omega arith
+
+-- ---- claims about answers
+
+-- what is got fulfils P, with the place after it; a refusal fulfils R
+abbrev pub Holds : {A : Type 0} → (A → ℕ → Type 0) → (Refusal → Type 0) → Answer A → Type 0
+Holds P R (got x next) = P x next
+Holds P R (refused r) = R r
+
+-- on past an answer, past a test, past the end
+pub on : {A B : Type 0} (P : A → ℕ → Type 0) (Q : B → ℕ → Type 0) (R : Refusal → Type 0) (m : Answer A) (f : A → Reader B)
+    → Holds P R m → ((x : A) (next : ℕ) → P x next → Holds Q R (f x next)) → Holds Q R (onward m f)
+on P Q R (got x next) f h k = k x next h
+on P Q R (refused r) f h k = h
+
+pub past-test : {B : Type 0} (Q : B → ℕ → Type 0) (R : Refusal → Type 0) (test : Bool) (r : Refusal) (at : ℕ) (n : Reader B)
+    → R r → (test ≡ false → Holds Q R (n at)) → Holds Q R (onward (cond test (refused r) (got tt at)) (λ (_ : Unit {0}). n))
+past-test Q R true r at n h k = h
+past-test Q R false r at n h k = k refl
+
+-- ---- bytes at a place
+
+-- so many bytes stand at a place, and the place after them is within the file
+pub record Stands (file : List ℕ) (at : ℕ) (w : List ℕ) (next : ℕ) : Type 0 where
+  pub stands : drop at file ≡ w ++ drop next file
+  pub after : next ≡ at + length w
+  pub inside : next ≤ length file
+
+pub stands-none : (file : List ℕ) (at : ℕ) → at ≤ length file → Stands file at [] at
+stands-none file at h = record { stands = refl; after = omega arith; inside = h }
+
+pub stands-more : (file : List ℕ) {at mid next : ℕ} (v w : List ℕ) → Stands file at v mid → Stands file mid w next
+    → Stands file at (v ++ w) next
+stands-more file v w s t =
+    record {
+      stands = s .stands ∙ ap (λ (x : List ℕ). v ++ x) (t .stands) ∙ sym (append-assoc v w _);
+      after = omega (arith, s .after, t .after, length-append v w);
+      inside = t .inside;
+    }
+
+-- what reading some bytes tells: of every file the place after them, and of a file of bytes that they stand there
+pub record Read (file : List ℕ) (at : ℕ) (w : List ℕ) (next : ℕ) : Type 0 where
+  pub inside : next ≤ length file
+  pub stands : Bytes file → Stands file at w next
+
+pub read-none : (file : List ℕ) (at : ℕ) → at ≤ length file → Read file at [] at
+read-none file at h = record { inside = h; stands = λ all. stands-none file at h }
+
+pub read-more : (file : List ℕ) {at mid next : ℕ} (v w : List ℕ) → Read file at v mid → Read file mid w next → Read file at (v ++ w) next
+read-more file v w s t =
+    record { inside = t .inside; stands = λ all. stands-more file v w (s .stands all) (t .stands all) }
+
+-- of two runs the first stands there, and the second past it
+pub first : (file : List ℕ) (at : ℕ) (v w t : List ℕ) → drop at file ≡ (v ++ w) ++ t → drop at file ≡ v ++ (w ++ t)
+first file at v w t e = e ∙ append-assoc v w t
+
+pub second : (file : List ℕ) (at : ℕ) (v w t : List ℕ) → drop at file ≡ (v ++ w) ++ t → drop (at + length v) file ≡ w ++ t
+second file at v w t e = drop-past file at v (w ++ t) (first file at v w t e)
+
+-- the place past both
+pub past-both : (at : ℕ) (v w : List ℕ) → at + length v + length w ≡ at + length (v ++ w)
+past-both at v w = omega (arith, length-append v w)
+
+-- ---- a field
+
+-- a refusal of a file: one of the first five, at a place within the file or at its end
+pub record Fault (file : List ℕ) (r : Refusal) : Type 0 where
+  pub some : 1 ≤ number r
+  pub few : number r ≤ 5
+  pub near : place r ≤ length file
+
+-- what a field tells
+pub record Field (file : List ℕ) (lo hi at n next : ℕ) : Type 0 where
+  pub low : lo ≤ n
+  pub high : n ≤ hi
+  pub read : Read file at (writeNumber n) next
+
+several-inside : (at last m k n next : ℕ) → several at last (got m k) ≡ got n next → next ≡ k
+unfolding several
+several-inside at last m k n next =
+    by-cond (λ (x : Answer ℕ). x ≡ got n next → next ≡ k) (eqb last 0) (λ z e. absurd (clash e)) (λ z e. cc)
+
+number-inside : (s : List ℕ) (at n next : ℕ) → readNumber s at ≡ got n next → next ≤ length s
+number-inside s at n next = go (read-way s at)
+  where
+    go : {x : Answer ℕ} → Way s at x → x ≡ got n next → next ≤ length s
+    go (none h) e = absurd (clash e)
+    go (one a h f k) e = let place : next ≡ at + 1 = cc in omega arith
+    go (half a h f k h1) e = absurd (clash e)
+    go (two a b h1 f g k l) e = let place : next ≡ at + 2 = several-inside at b _ _ n next e in omega arith
+    go (most a b h1 f g k l h2) e = absurd (clash e)
+    go (three a b c h2 f g i k l m) e = let place : next ≡ at + 3 = several-inside at c _ _ n next e in omega arith
+    go (over a b c h2 f g i k l m) e = absurd (clash e)
+
+pub field-holds : (file : List ℕ) (lo hi at : ℕ) → at ≤ length file
+    → Holds (λ n next. Field file lo hi at n next) (Fault file) (field file lo hi at)
+field-holds file lo hi at h = go (field file lo hi at) refl
+  where
+    fault : (r : Refusal) → (r ≡ Short at) ⊎ ((r ≡ Number at) ⊎ (r ≡ Range at)) → Fault file r
+    fault r (inl e) = rw e (record { some = omega arith; few = omega arith; near = h })
+    fault r (inr (inl e)) = rw e (record { some = omega arith; few = omega arith; near = h })
+    fault r (inr (inr e)) = rw e (record { some = omega arith; few = omega arith; near = h })
+
+    stands : (n next : ℕ) → readNumber file at ≡ got n next → Bytes file → Stands file at (writeNumber n) next
+    stands n next e all =
+        let w = written-read file at n next all e in record { stands = w .stands; after = w .after; inside = w .inside }
+
+    go : (x : Answer ℕ) → field file lo hi at ≡ x → Holds (λ n next. Field file lo hi at n next) (Fault file) x
+    go (refused r) e = fault r (field-refusal file lo hi at r e)
+    go (got n next) e =
+        let f = field-read file lo hi at n next e in
+        record { low = f .low; high = f .high; read = record { inside = number-inside file at n next (f .read); stands = stands n next (f .read) } }
+
+-- on past a field
+pub on-field : {B : Type 0} (Q : B → ℕ → Type 0) (file : List ℕ) (lo hi at : ℕ) (f : ℕ → Reader B) → at ≤ length file
+    → ((n next : ℕ) → Field file lo hi at n next → Holds Q (Fault file) (f n next))
+    → Holds Q (Fault file) (onward (field file lo hi at) f)
+on-field Q file lo hi at f h k = on (Field file lo hi at) Q (Fault file) (field file lo hi at) f (field-holds file lo hi at h) k

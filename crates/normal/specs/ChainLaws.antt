@@ -1,0 +1,165 @@
+-- Laws for chain, cat and star, one for each of their returns and calls: what the node told, and what a callee made, is what is asked.
+-- cat makes nothing new unless both sides are more than Empty.
+use Prim.Native.Nat.{ℕ, suc, _+_, _<_, _≤_}
+use native.Mathlib.Omega.{arith}
+use mathlib.Core.Path.{_≡_, refl, sym, ap}
+use mathlib.Core.Bool.{Bool, true, false, cond, _||_}
+use mathlib.Core.List.{List}
+use lib.ListN.{length}
+use Rattle.meaning.specs.Re.{Re, isNothing, isEmpty}
+use Rattle.meaning.specs.Normal.{chain, cat, star}
+use Rattle.meaning.specs.ShapeLaws.{chain-one, cat-chain}
+use Rattle.meaning.specs.SizeLaws.{spine}
+use Rattle.meaning.specs.Tests.{is-nothing}
+use Rattle.term.specs.declared.Term.{Term}
+use Rattle.term.specs.declared.Term.the-variants.{Nothing, Empty, Range, Cat, Alt, Star}
+use Rattle.term.specs.Cells.{grow, term, Sound}
+use Rattle.term.specs.Area.{Makes}
+use Rattle.term.specs.Nodes.{kindOf, Found}
+use Rattle.term.specs.CellLaws.{grown-term, makes-old, makes-more, makes-as, makes-after}
+use Rattle.normal.specs.Asked.{plain, catCells, Links}
+use Rattle.normal.specs.NodeLaws.{found-no-cat}
+
+-- ---- chain
+
+spine-cat : (s : List ℕ) (a x y : ℕ) → Found s a (Cat x y) → spine (term s a) ≡ suc (spine (term s y))
+unfolding spine
+spine-cat s a x y f = rw (f .is)
+
+chain-cat : (s : List ℕ) (a x y : ℕ) (z : Re) → Found s a (Cat x y) → chain (term s a) z ≡ Re.Cat (term s x) (chain (term s y) z)
+unfolding chain
+chain-cat s a x y z f = rw (f .is)
+
+module _ {s : List ℕ} {top a b : ℕ} (l : Links s top a b) {x y : ℕ} (f : Found s a (Cat x y)) where
+  -- one link further
+  pub chain-down : Links s top y b
+  chain-down =
+      let g = spine-cat s a x y f in
+      let h = f .below .1 in
+      record { sound = l .sound; left = omega (arith, l .left); right = l .right; room = omega (arith, l .room) }
+
+  module _ {s′ : List ℕ} {root top′ : ℕ} (m : Makes s top s′ root top′ (chain (term s y) (term s b)) (spine (term s y) + 1)) where
+    -- the link is stored above the rest
+    pub chain-asks : Sound s′ top′ × ((top′ < length s′) × ((x < top′) × (root < top′)))
+    chain-asks =
+        let g = spine-cat s a x y f in
+        let h = f .below .0 in (
+          m .grown .sound,
+          (
+            omega (arith, l .room, m .few, m .grown .same-length),
+            (omega (arith, l .left, m .grown .up), m .within),
+          ),
+        )
+
+    pub chain-up : {s″ : List ℕ} {root′ top″ : ℕ} → Makes s′ top′ s″ root′ top″ (grow (Cat x root) (term s′)) 1
+        → Makes s top s″ root′ top″ (chain (term s a) (term s b)) (spine (term s a) + 1)
+    chain-up n =
+        let h = f .below .0 in
+        let same : term s′ x ≡ term s x = grown-term x (m .grown) (l .sound) (omega (arith, l .left)) in
+        let is : Re.Cat (term s′ x) (term s′ root) ≡ chain (term s a) (term s b) = cc (chain-cat s a x y (term s b) f, m .is) in
+        makes-as (chain (term s a) (term s b))
+        (makes-more (spine (term s a) + 1) (makes-after (spine (term s y) + 1) (m .grown) (m .few) n) (omega (arith, spine-cat s a x y f)))
+        is
+
+pub chain-end : {s : List ℕ} {a : ℕ} (b : ℕ) {u : Term} {s′ : List ℕ} {top root top′ : ℕ} → Found s a u → (kindOf u ≡ 3 → ⊥)
+    → Makes s top s′ root top′ (Re.Cat (term s a) (term s b)) 1 → Makes s top s′ root top′ (chain (term s a) (term s b)) (spine (term s a) + 1)
+chain-end {s} {a} b f n m =
+    makes-as (chain (term s a) (term s b)) (makes-more (spine (term s a) + 1) m (omega arith))
+    (sym (chain-one (term s a) (term s b) (found-no-cat f n)))
+
+-- ---- cat
+
+cat-nothing-left : (a b : Re) → isNothing a ≡ true → a ≡ cat a b
+unfolding cat
+cat-nothing-left a b e = rw e (is-nothing a e)
+
+cat-nothing-right : (a b : Re) → isNothing a ≡ false → isNothing b ≡ true → b ≡ cat a b
+unfolding cat
+cat-nothing-right a b d e = rw (d, e) (is-nothing b e)
+
+cat-empty-left : (a b : Re) → isNothing a ≡ false → isNothing b ≡ false → isEmpty a ≡ true → b ≡ cat a b
+unfolding cat
+cat-empty-left a b d e f = rw (d, e, f)
+
+cat-empty-right : (a b : Re) → isNothing a ≡ false → isNothing b ≡ false → isEmpty a ≡ false → isEmpty b ≡ true → a ≡ cat a b
+unfolding cat
+cat-empty-right a b d e f g = rw (d, e, f, g)
+
+cat-full : (a b : Re) → isNothing a ≡ false → isNothing b ≡ false → isEmpty a ≡ false → isEmpty b ≡ false → spine a + 1 ≡ catCells a b
+unfolding catCells
+cat-full a b d e f g = rw (d, e, f, g)
+
+module _ {s : List ℕ} {top a b : ℕ} (l : Links s top a b) where
+  pub cat-none-left : isNothing (term s a) ≡ true → Makes s top s a top (cat (term s a) (term s b)) (catCells (term s a) (term s b))
+  cat-none-left e = makes-old a _ _ (l .sound) (l .left) (cat-nothing-left (term s a) (term s b) e)
+
+  module _ (x : isNothing (term s a) ≡ false) where
+    pub cat-none-right : isNothing (term s b) ≡ true → Makes s top s b top (cat (term s a) (term s b)) (catCells (term s a) (term s b))
+    cat-none-right e = makes-old b _ _ (l .sound) (l .right) (cat-nothing-right (term s a) (term s b) x e)
+
+    module _ (y : isNothing (term s b) ≡ false) where
+      pub cat-skip-left : isEmpty (term s a) ≡ true → Makes s top s b top (cat (term s a) (term s b)) (catCells (term s a) (term s b))
+      cat-skip-left e = makes-old b _ _ (l .sound) (l .right) (cat-empty-left (term s a) (term s b) x y e)
+
+      module _ (v : isEmpty (term s a) ≡ false) where
+        pub cat-skip-right : isEmpty (term s b) ≡ true → Makes s top s a top (cat (term s a) (term s b)) (catCells (term s a) (term s b))
+        cat-skip-right e = makes-old a _ _ (l .sound) (l .left) (cat-empty-right (term s a) (term s b) x y v e)
+
+        pub cat-both : isEmpty (term s b) ≡ false → {s′ : List ℕ} {root top′ : ℕ}
+            → Makes s top s′ root top′ (chain (term s a) (term s b)) (spine (term s a) + 1)
+            → Makes s top s′ root top′ (cat (term s a) (term s b)) (catCells (term s a) (term s b))
+        cat-both w m =
+            makes-as _ (makes-more _ m (omega (arith, cat-full (term s a) (term s b) x y v w)))
+            (sym (cat-chain (term s a) (term s b) x v y w))
+
+-- the bound as a caller counts it, and where nothing is made
+pub cat-few : (a b : Re) → catCells a b ≤ spine a + 1
+unfolding catCells
+cat-few a b = go (plain a || plain b)
+  where
+    go : (t : Bool) → cond t 0 (spine a + 1) ≤ spine a + 1
+    go true = omega arith
+    go false = omega arith
+
+pub cat-idle-left : (a b : Re) → plain a ≡ true → catCells a b ≡ 0
+unfolding catCells
+cat-idle-left a b e = rw e
+
+pub cat-idle-right : (a b : Re) → plain b ≡ true → catCells a b ≡ 0
+unfolding catCells
+cat-idle-right a b e = go (plain a)
+  where
+    go : (t : Bool) → cond (t || plain b) 0 (spine a + 1) ≡ 0
+    go true = refl
+    go false = rw e
+
+-- ---- star
+
+module _ {s : List ℕ} {top a : ℕ} (ok : Sound s top) (h : a < top) where
+  pub star-nothing : Found s a Nothing → {s′ : List ℕ} {root top′ : ℕ} → Makes s top s′ root top′ Re.Empty 1
+      → Makes s top s′ root top′ (star (term s a)) 1
+  unfolding star
+  star-nothing f m = makes-as (star (term s a)) m (rw (f .is))
+
+  pub star-empty : Found s a Empty → Makes s top s a top (star (term s a)) 1
+  unfolding star
+  star-empty f = makes-old a 1 (star (term s a)) ok h (rw (f .is))
+
+  pub star-star : {x : ℕ} → Found s a (Star x) → Makes s top s a top (star (term s a)) 1
+  unfolding star
+  star-star f = makes-old a 1 (star (term s a)) ok h (rw (f .is))
+
+  pub star-range : {lo hi : ℕ} → Found s a (Range lo hi) → {s′ : List ℕ} {root top′ : ℕ} → Makes s top s′ root top′ (Re.Star (term s a)) 1
+      → Makes s top s′ root top′ (star (term s a)) 1
+  unfolding star
+  star-range f m = makes-as (star (term s a)) m (rw (f .is))
+
+  pub star-cat : {x y : ℕ} → Found s a (Cat x y) → {s′ : List ℕ} {root top′ : ℕ} → Makes s top s′ root top′ (Re.Star (term s a)) 1
+      → Makes s top s′ root top′ (star (term s a)) 1
+  unfolding star
+  star-cat f m = makes-as (star (term s a)) m (rw (f .is))
+
+  pub star-alt : {x y : ℕ} → Found s a (Alt x y) → {s′ : List ℕ} {root top′ : ℕ} → Makes s top s′ root top′ (Re.Star (term s a)) 1
+      → Makes s top s′ root top′ (star (term s a)) 1
+  unfolding star
+  star-alt f m = makes-as (star (term s a)) m (rw (f .is))

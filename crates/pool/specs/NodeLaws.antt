@@ -1,0 +1,186 @@
+-- In a pool a node stands for its term: of nodes whose children stand there, equal ones have equal terms, and no others have.
+-- So looking for a node among the cells is looking for its term among the terms, which is what putting a node rests on.
+use Prim.Native.Nat.{ℕ, suc, _+_, _<_, _≤_}
+use native.Mathlib.Omega.{arith}
+use native.Mathlib.Decide.{decLt}
+use mathlib.Core.Path.{_≡_, refl, sym, ap, subst, _∙_}
+use mathlib.Core.Bool.{Bool, true, false, cond, _&&_}
+use mathlib.Core.List.{List}
+use borrow.Author.Tests.{eqb-true, eq-eqb, ne-eqb}
+use lib.Dec.{eqb}
+use lib.ListN.{getD}
+use Rattle.meaning.specs.Re.{Re}
+use Rattle.meaning.specs.Order.{kind}
+use Rattle.meaning.specs.Tests.{clash, and-true, true-and}
+use Rattle.term.specs.declared.Term.{Term}
+use Rattle.term.specs.declared.Term.the-variants.{Nothing, Empty, Range, Cat, Alt, Star}
+use Rattle.term.specs.Cells.{nodeOf, grow, term, Below}
+use Rattle.term.specs.Nodes.{kindOf, firstOf, secondOf, Pushed}
+use Rattle.term.specs.CellLaws.{Same, frame, term-node}
+use Rattle.walk.specs.Parts.{holds, withTerm}
+use Rattle.walk.specs.PartsLaws.{Held, term-held, term-new}
+use Rattle.pool.specs.Pooled.{termsOf, Pooled, After}
+use Rattle.pool.specs.Steps.{sameNode, Looked}
+use Rattle.pool.specs.PoolLaws.{held-stands, term-held-below, terms-frame, same-number}
+
+-- ---- a node by its kind and fields
+
+abbrev rebuilt : ℕ → ℕ → ℕ → Term
+rebuilt k a b =
+    cond (eqb k 0) Nothing
+    (cond (eqb k 1) Empty
+    (cond (eqb k 2) (Range a b)
+    (cond (eqb k 3) (Cat a b)
+    (cond (eqb k 4) (Alt a b)
+    (Star a)))))
+
+rebuild : (u : Term) → u ≡ rebuilt (kindOf u) (firstOf u) (secondOf u)
+rebuild Nothing = refl
+rebuild Empty = refl
+rebuild (Range lo hi) = refl
+rebuild (Cat a b) = refl
+rebuild (Alt a b) = refl
+rebuild (Star a) = refl
+
+of-kind : (u : Term) (k : ℕ) → kindOf u ≡ k → u ≡ rebuilt k (firstOf u) (secondOf u)
+of-kind u k e = rw (← e) (rebuild u)
+
+kind-grow : (u : Term) (f : ℕ → Re) → kind (grow u f) ≡ kindOf u
+kind-grow Nothing f = refl
+kind-grow Empty f = refl
+kind-grow (Range lo hi) f = refl
+kind-grow (Cat a b) f = refl
+kind-grow (Alt a b) f = refl
+kind-grow (Star a) f = refl
+
+by-parts : (u w : Term) → kindOf u ≡ kindOf w → firstOf u ≡ firstOf w → secondOf u ≡ secondOf w → u ≡ w
+by-parts u w k a b = rebuild u ∙ rw (k, a, b) (sym (rebuild w))
+
+-- the code's test of two nodes says equality
+pub node-same : (u w : Term) → sameNode u w ≡ true → u ≡ w
+node-same u w e =
+    let p = and-true (eqb (kindOf u) (kindOf w)) (eqb (firstOf u) (firstOf w) && eqb (secondOf u) (secondOf w)) e in
+    let q = and-true (eqb (firstOf u) (firstOf w)) (eqb (secondOf u) (secondOf w)) (p .1) in
+    by-parts u w (eqb-true (kindOf u) (kindOf w) (p .0)) (eqb-true (firstOf u) (firstOf w) (q .0)) (eqb-true (secondOf u) (secondOf w) (q .1))
+
+pub node-self : (u w : Term) → u ≡ w → sameNode u w ≡ true
+node-self u w e =
+    true-and (eq-eqb (kindOf u) (kindOf w) (ap kindOf e))
+    (true-and (eq-eqb (firstOf u) (firstOf w) (ap firstOf e)) (eq-eqb (secondOf u) (secondOf w) (ap secondOf e)))
+
+-- the test's answer by its three comparisons, in their order
+pub other-kind : (u w : Term) → (kindOf u ≡ kindOf w → ⊥) → false ≡ sameNode u w
+other-kind u w h = rw (ne-eqb (kindOf u) (kindOf w) h)
+
+pub other-first : (u w : Term) → kindOf u ≡ kindOf w → (firstOf u ≡ firstOf w → ⊥) → false ≡ sameNode u w
+other-first u w e h = rw (eq-eqb (kindOf u) (kindOf w) e, ne-eqb (firstOf u) (firstOf w) h)
+
+pub by-second : (u w : Term) → kindOf u ≡ kindOf w → firstOf u ≡ firstOf w → {m n : ℕ} → m ≡ secondOf u → n ≡ secondOf w → eqb m n ≡ sameNode u w
+by-second u w e f p q = rw (eq-eqb (kindOf u) (kindOf w) e, eq-eqb (firstOf u) (firstOf w) f, p, q)
+
+-- ---- nodes and terms
+
+below-more : (u : Term) (i j : ℕ) → Below u i → i ≤ j → Below u j
+below-more Nothing i j b h = tt
+below-more Empty i j b h = tt
+below-more (Range lo hi) i j b h = b
+below-more (Cat l r) i j b h = (omega arith, omega arith)
+below-more (Alt l r) i j b h = (omega arith, omega arith)
+below-more (Star l) i j b h = omega arith
+
+-- where children with equal terms are equal, nodes with equal terms are equal
+module _ (f : ℕ → Re) (top : ℕ) (apart : (i j : ℕ) → i < top → j < top → f i ≡ f j → i ≡ j) where
+  node-grown : (u w : Term) → Below u top → Below w top → grow w f ≡ grow u f → w ≡ u
+  node-grown Nothing w b d e = of-kind w 0 (sym (kind-grow w f) ∙ ap kind e)
+  node-grown Empty w b d e = of-kind w 1 (sym (kind-grow w f) ∙ ap kind e)
+  node-grown (Range lo hi) w b d e =
+      let form : w ≡ Range (firstOf w) (secondOf w) = of-kind w 2 (sym (kind-grow w f) ∙ ap kind e) in
+      let g : Re.Range (firstOf w) (secondOf w) ≡ Re.Range lo hi = sym (ap (λ (v : Term). grow v f) form) ∙ e in
+      cc
+  node-grown (Cat a a′) w b d e =
+      let form : w ≡ Cat (firstOf w) (secondOf w) = of-kind w 3 (sym (kind-grow w f) ∙ ap kind e) in
+      let g : Re.Cat (f (firstOf w)) (f (secondOf w)) ≡ Re.Cat (f a) (f a′) = sym (ap (λ (v : Term). grow v f) form) ∙ e in
+      let l : Below (Cat (firstOf w) (secondOf w)) top = subst (λ (v : Term). Below v top) form d in
+      let p : firstOf w ≡ a = apart (firstOf w) a (l .0) (b .0) (cc) in
+      let q : secondOf w ≡ a′ = apart (secondOf w) a′ (l .1) (b .1) (cc) in
+      cc
+  node-grown (Alt a a′) w b d e =
+      let form : w ≡ Alt (firstOf w) (secondOf w) = of-kind w 4 (sym (kind-grow w f) ∙ ap kind e) in
+      let g : Re.Alt (f (firstOf w)) (f (secondOf w)) ≡ Re.Alt (f a) (f a′) = sym (ap (λ (v : Term). grow v f) form) ∙ e in
+      let l : Below (Alt (firstOf w) (secondOf w)) top = subst (λ (v : Term). Below v top) form d in
+      let p : firstOf w ≡ a = apart (firstOf w) a (l .0) (b .0) (cc) in
+      let q : secondOf w ≡ a′ = apart (secondOf w) a′ (l .1) (b .1) (cc) in
+      cc
+  node-grown (Star a) w b d e =
+      let form : w ≡ Star (firstOf w) = of-kind w 5 (sym (kind-grow w f) ∙ ap kind e) in
+      let g : Re.Star (f (firstOf w)) ≡ Re.Star (f a) = sym (ap (λ (v : Term). grow v f) form) ∙ e in
+      let l : Below (Star (firstOf w)) top = subst (λ (v : Term). Below v top) form d in
+      let p : firstOf w ≡ a = apart (firstOf w) a l b (cc) in
+      cc
+
+module _ (s : List ℕ) (top : ℕ) (u : Term) (p : Pooled s top) (b : Below u top) where
+  -- a cell that holds the node holds its term, and the other way round
+  cell-term : (k : ℕ) → k < top → nodeOf (getD s k 0) ≡ u → term s k ≡ grow u (term s)
+  cell-term k h e = term-node s top k (p .sound) h ∙ ap (λ (w : Term). grow w (term s)) e
+
+  term-cell : (k : ℕ) → k < top → term s k ≡ grow u (term s) → nodeOf (getD s k 0) ≡ u
+  term-cell k h e =
+      node-grown (term s) top (λ i j l m d. same-number s top i j p l m d) u (nodeOf (getD s k 0)) b
+      (below-more (nodeOf (getD s k 0)) k top (p .sound .nodes k h) (omega arith)) (sym (term-node s top k (p .sound) h) ∙ e)
+
+  -- the node was found: its term is held
+  pub put-old : (r : ℕ) → r < top → Looked s top u r
+      → After s top (withTerm (termsOf s top) (grow u (term s))) s r top (grow u (term s)) (top + 1)
+  put-old r h l =
+      let e = cell-term r h (l .there h) in
+      let held : Held (termsOf s top) (grow u (term s)) = rw e at (term-held-below s top r h) in
+      record {
+        pool = record { sound = p .sound; holds = sym (term-held (termsOf s top) (grow u (term s)) held); once = p .once };
+        up = omega arith;
+        few = omega arith;
+        within = h;
+        is = e;
+        same-length = refl;
+        kept-below = λ i k. refl;
+        kept-above = λ i k. refl;
+      }
+
+  -- it was not found: its term is new
+  not-held : ((k : ℕ) → k < top → nodeOf (getD s k 0) ≡ u → ⊥) → (x : Bool) → holds (termsOf s top) (grow u (term s)) ≡ x
+      → holds (termsOf s top) (grow u (term s)) ≡ false
+  not-held none true e =
+      let t = held-stands s top (grow u (term s)) e in
+      absurd (none (t .at) (t .within) (term-cell (t .at) (t .within) (t .is)))
+  not-held none false e = e
+
+  pub put-new : (r : ℕ) (s′ : List ℕ) (next : ℕ) → top ≤ r → Looked s top u r → Pushed s top u s′ next
+      → After s top (withTerm (termsOf s top) (grow u (term s))) s′ top next (grow u (term s)) (top + 1)
+  unfolding termsOf
+  put-new r s′ next h l n =
+      let new : holds (termsOf s top) (grow u (term s)) ≡ false =
+      not-held (λ k m. l .before k (omega arith)) (holds (termsOf s top) (grow u (term s))) refl in
+      let g = n .makes .grown in
+      let same : Same s s′ top = g .kept-below in
+      let at : next ≡ suc top = omega (arith, n .after) in
+      let is : term s′ top ≡ grow u (term s) = n .makes .is in
+      let t : (i : ℕ) → i < top → term s′ i ≡ term s i = λ i k. frame s s′ top i (p .sound) same k in
+      record {
+        pool = record {
+          sound = g .sound;
+          holds = rw (at, terms-frame s s′ top (p .sound) same, is) (sym (term-new (termsOf s top) (grow u (term s)) new));
+          once = λ i j k m e. elim (decLt j top) [
+            | yes o ↦ p .once i j k o (sym (t i (omega arith)) ∙ e ∙ t j o)
+            | no o ↦
+                let d : j ≡ top = omega arith in
+                let f : term s i ≡ grow u (term s) = sym (t i (omega arith)) ∙ e ∙ ap (term s′) d ∙ is in
+                clash (rw f at (term-held-below s top i (omega arith))) new
+          ];
+        };
+        up = omega arith;
+        few = omega arith;
+        within = omega arith;
+        is = is;
+        same-length = g .same-length;
+        kept-below = same;
+        kept-above = λ i k. g .kept-above i (omega arith);
+      }

@@ -1,0 +1,28 @@
+-- What the steps of putting a term into the pool tell: nodes compared, a cell looked for, a tree copied to another area.
+-- These records are their contracts; Pooled has those of the pool itself.
+use Prim.Native.Nat.{ℕ, _+_, _-_, _<_, _≤_}
+use mathlib.Core.Path.{_≡_}
+use mathlib.Core.Bool.{Bool, _&&_}
+use mathlib.Core.List.{List}
+use lib.Dec.{eqb}
+use lib.ListN.{getD}
+use Rattle.meaning.specs.Re.{Re, size}
+use Rattle.term.specs.declared.Term.{Term}
+use Rattle.term.specs.Cells.{nodeOf}
+use Rattle.term.specs.Area.{Makes}
+use Rattle.term.specs.Nodes.{kindOf, firstOf, secondOf}
+
+-- two nodes of one kind with the same fields
+abbrev pub sameNode : Term → Term → Bool
+sameNode x y = eqb (kindOf x) (kindOf y) && (eqb (firstOf x) (firstOf y) && eqb (secondOf x) (secondOf y))
+
+-- r is the first cell below top that holds this node, or top where none does
+pub record Looked (s : List ℕ) (top : ℕ) (u : Term) (r : ℕ) : Type 0 where
+  pub within : r ≤ top
+  pub there : r < top → nodeOf (getD s r 0) ≡ u
+  pub before : (k : ℕ) → k < r → nodeOf (getD s k 0) ≡ u → ⊥
+
+-- the tree of v was stored from place `at` on, one cell a tree node, its root last
+pub record Copied (out : List ℕ) (at : ℕ) (out′ : List ℕ) (end : ℕ) (v : Re) : Type 0 where
+  pub makes : Makes out at out′ (end - 1) end v (size v)
+  pub after : end ≡ at + size v

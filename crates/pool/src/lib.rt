@@ -1,0 +1,145 @@
+// The pool of terms in the work area: a term is put into it with all its parts, each looked up first, so that equal terms have equal numbers.
+// Scratch above the pool is given up once a result has been copied out of it.
+ghost use mathlib.Core.Path.{_≡_};
+ghost use Prim.Native.Nat.{_+_, _≤_, _<_};
+ghost use lib.ListN.{length};
+ghost use Rattle.number.specs.Limits.{treeNodes};
+ghost use Rattle.meaning.specs.Re.{size};
+ghost use Rattle.term.specs.Cells.{term, grow, Below, Sound};
+ghost use Rattle.term.specs.Area.{Room};
+ghost use Rattle.walk.specs.Parts.{withTerm};
+ghost use Rattle.pool.specs.Pooled.{termsOf, Pooled, After, Put};
+ghost use Rattle.pool.specs.Steps.{sameNode, Looked, Copied};
+use number::limits::TREE_NODES;
+use term::Term;
+use term::first_of;
+use term::kind_of;
+use term::node_at;
+use term::push;
+use term::second_of;
+
+// The cell of a term, and the next free cell.
+pub struct Placed {
+    pub root: usize,
+    pub top: usize,
+}
+
+// Two nodes of one kind with the same fields.
+fn same_node(x: Term, y: Term) -> bool
+    ensures { λ r. ⌜ r ≡ sameNode x y ⌝ }
+{
+    if kind_of(x) != kind_of(y) {
+        return false;
+    }
+    if first_of(x) != first_of(y) {
+        return false;
+    }
+    second_of(x) == second_of(y)
+}
+
+// The first cell below `top` that holds this node, or `top` where none does.
+pub fn find_cell(cells: &[u64], top: usize, node: Term) -> usize
+    requires { ⌜ top ≤ length (now cells) ⌝ }
+    ensures { λ r. ⌜ Looked (now (cells .entry)) top node r ⌝ }
+{
+    let mut k: usize = 0;
+    while k < top {
+        if same_node(node_at(cells, k), node) {
+            return k;
+        }
+        k += 1;
+    }
+    k
+}
+
+// Puts a node whose children stand in the pool into the pool: in the cell that holds it already, or in a new one.
+pub fn put_node(cells: &mut [u64], top: usize, node: Term) -> Placed
+    requires { ⌜ Pooled (now cells) top ⌝ }
+    requires { ⌜ Below node top ⌝ }
+    requires { ⌜ Room (now cells) top 1 ⌝ }
+    ensures { λ r. ⌜ After (now (cells .entry)) top (withTerm (termsOf (now (cells .entry)) top) (grow node (term (now (cells .entry)))))
+        (now (cells .exit)) (r .root) (r .top) (grow node (term (now (cells .entry)))) (top + 1) ⌝ }
+{
+    let at = find_cell(cells, top, node);
+    if at < top {
+        return Placed { root: at, top: top };
+    }
+    let next = push(cells, top, node);
+    Placed {
+        root: top,
+        top: next,
+    }
+}
+
+// Copies the tree of a term to another area, children first; the answer is the place after it.
+pub fn copy_out(cells: &[u64], i: usize, out: &mut [u64], at: usize) -> usize
+    requires { ⌜ Sound (now cells) (i + 1) ⌝ }
+    requires { ⌜ Sound (now out) at ⌝ }
+    requires { ⌜ Room (now out) at (size (term (now cells) i)) ⌝ }
+    ensures { λ r. ⌜ Copied (now (out .entry)) at (now (out .exit)) r (term (now (cells .entry)) i) ⌝ }
+{
+    let node = node_at(cells, i);
+    match node {
+        Term::Nothing => push(out, at, node),
+        Term::Empty => push(out, at, node),
+        Term::Range(_, _) => push(out, at, node),
+        Term::Cat(a, b) => {
+            let middle = copy_out(cells, a, out, at);
+            let end = copy_out(cells, b, out, middle);
+            push(out, end, Term::Cat(middle - 1, end - 1))
+        }
+        Term::Alt(a, b) => {
+            let middle = copy_out(cells, a, out, at);
+            let end = copy_out(cells, b, out, middle);
+            push(out, end, Term::Alt(middle - 1, end - 1))
+        }
+        Term::Star(a) => {
+            let end = copy_out(cells, a, out, at);
+            push(out, end, Term::Star(end - 1))
+        }
+    }
+}
+
+// Puts a term that stands in another area into the pool with all its parts, children first.
+pub fn put_copy(out: &[u64], k: usize, cells: &mut [u64], top: usize) -> Placed
+    requires { ⌜ Sound (now out) (k + 1) ⌝ }
+    requires { ⌜ Pooled (now cells) top ⌝ }
+    requires { ⌜ Room (now cells) top (size (term (now out) k)) ⌝ }
+    ensures { λ r. ⌜ Put (now (cells .entry)) top (termsOf (now (cells .entry)) top) (now (cells .exit)) (r .root) (r .top)
+        (term (now (out .entry)) k) (top + size (term (now (out .entry)) k)) ⌝ }
+{
+    let node = node_at(out, k);
+    match node {
+        Term::Nothing => put_node(cells, top, node),
+        Term::Empty => put_node(cells, top, node),
+        Term::Range(_, _) => put_node(cells, top, node),
+        Term::Cat(a, b) => {
+            let left = put_copy(out, a, cells, top);
+            let right = put_copy(out, b, cells, left.top);
+            put_node(cells, right.top, Term::Cat(left.root, right.root))
+        }
+        Term::Alt(a, b) => {
+            let left = put_copy(out, a, cells, top);
+            let right = put_copy(out, b, cells, left.top);
+            put_node(cells, right.top, Term::Alt(left.root, right.root))
+        }
+        Term::Star(a) => {
+            let inner = put_copy(out, a, cells, top);
+            put_node(cells, inner.top, Term::Star(inner.root))
+        }
+    }
+}
+
+// Puts the term in cell `i`, in the pool or in scratch above it, into the pool at `top`; the scratch is given up.
+pub fn put_term(cells: &mut [u64], top: usize, i: usize) -> Placed
+    requires { ⌜ Pooled (now cells) top ⌝ }
+    requires { ⌜ Sound (now cells) (i + 1) ⌝ }
+    requires { ⌜ size (term (now cells) i) ≤ treeNodes ⌝ }
+    requires { ⌜ Room (now cells) top treeNodes ⌝ }
+    ensures { λ r. ⌜ Put (now (cells .entry)) top (termsOf (now (cells .entry)) top) (now (cells .exit)) (r .root) (r .top)
+        (term (now (cells .entry)) i) (top + size (term (now (cells .entry)) i)) ⌝ }
+{
+    let mut out = [0u64; TREE_NODES];
+    let end = copy_out(cells, i, &mut out, 0);
+    put_copy(&out, end - 1, cells, top)
+}

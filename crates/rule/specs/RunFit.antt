@@ -1,0 +1,43 @@
+-- A rule's nodes worked off with a stack of terms in normal form, each result tested as it is made: what the code does.
+-- RunFitLaws proves that this is the limited normal form of the rule's expression.
+use Prim.Native.Nat.{ℕ, _-_}
+use mathlib.Core.List.{List, [], _∷_}
+use lib.ListN.{drop}
+use Rattle.number.specs.Limits.{capital}
+use Rattle.meaning.specs.Re.{Re}
+use Rattle.meaning.specs.Normal.{cat, alt, star}
+use Rattle.meaning.specs.Limited.{Fit, _>>=_, fit}
+use Rattle.meaning.specs.Limited.Fit.{Fits}
+use Rattle.book.specs.declared.Node.{Node}
+use Rattle.book.specs.declared.Node.the-variants.{Nothing, Empty, Range, Cat, Alt, Star, Either}
+use Rattle.book.specs.Book.{takes}
+use Rattle.book.specs.Expression.{top}
+
+-- the term below the top one
+abbrev pub second : List Re → Re
+second [] = Re.Nothing
+second (b ∷ stack) = top stack
+
+-- the two letters of an Either: the capital, and the small one
+abbrev pub large : ℕ → Re
+large x = Re.Range (x - capital) (x - capital)
+
+abbrev pub small : ℕ → Re
+small x = Re.Range x x
+
+-- what a node makes of the term on top, b, and the one below it, a; a node that takes fewer ignores the others
+abbrev pub made : Node → Re → Re → Fit
+made Nothing a b = Fits Re.Nothing
+made Empty a b = Fits Re.Empty
+made (Range lo hi) a b = Fits (Re.Range lo hi)
+made Cat a b = fit (cat a b)
+made Alt a b = fit (alt a b)
+made Star a b = fit (star b)
+made (Either x) a b = fit (alt (large x) (small x))
+
+-- the term that is left at the end, or that a result was too long, which ends the work
+unfoldable pub runFit : List Node → List Re → Fit
+runFit [] stack = Fits (top stack)
+runFit (n ∷ ns) stack = do
+  v ← made n (second stack) (top stack)
+  runFit ns (v ∷ drop (takes n) stack)

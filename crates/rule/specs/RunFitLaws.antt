@@ -1,0 +1,160 @@
+-- Working a valid rule's nodes off with normal forms gives the limited normal form of the rule's expression.
+-- The limited normal form is strict in all parts and no term leaves the stack unused, so a part that is too long makes the whole so.
+use Prim.Native.Nat.{ℕ, zero, suc, _+_, _-_, _≤_}
+use native.Mathlib.Omega.{arith}
+use mathlib.Core.Path.{_≡_, refl, sym, _∙_}
+use mathlib.Core.Bool.{Bool, true, false, cond}
+use mathlib.Core.List.{List, [], _∷_}
+use lib.ListN.{length, drop}
+use Rattle.meaning.specs.Re.{Re, size}
+use Rattle.meaning.specs.Normal.{cat, alt, star}
+use Rattle.meaning.specs.Limited.{Fit, _>>=_, short, fit, normalFit}
+use Rattle.meaning.specs.Limited.Fit.{Long, Fits}
+use Rattle.meaning.specs.Shape.{InShape}
+use Rattle.meaning.specs.ShapeLaws.{shape-cat, shape-alt, shape-star}
+use Rattle.book.specs.declared.Node.{Node}
+use Rattle.book.specs.declared.Node.the-variants.{Nothing, Empty, Range, Cat, Alt, Star, Either}
+use Rattle.book.specs.Book.{Rule, takes}
+use Rattle.book.specs.Valid.{Leaves, ValidRule}
+use Rattle.book.specs.Expression.{stacked, run, top, expression}
+use Rattle.book.specs.ExpressionLaws.{stacked-length}
+use Rattle.rule.specs.RunFit.{second, large, small, made, runFit}
+
+-- each term of one stack is the limited normal form of its place on the other
+pub data Each : List Re → List Re → Type 0 where
+  none : Each [] []
+  more : {e v : Re} {es vs : List Re} → normalFit e ≡ Fits v → Each es vs → Each (e ∷ es) (v ∷ vs)
+
+-- some expression of a stack is too long
+data Some : List Re → Type 0 where
+  here : (e : Re) (es : List Re) → normalFit e ≡ Long → Some (e ∷ es)
+  later : {e : Re} {es : List Re} → Some es → Some (e ∷ es)
+
+-- ---- one node
+
+each-drop : {es vs : List Re} (k : ℕ) → Each es vs → Each (drop k es) (drop k vs)
+each-drop zero ps = ps
+each-drop (suc k) none = none
+each-drop (suc k) (more p ps) = each-drop k ps
+
+-- a node puts one term in the place of those that it takes
+stacked-is : (n : Node) (es : List Re) → takes n ≤ length es → stacked n es ≡ top (stacked n es) ∷ drop (takes n) es
+unfolding stacked
+stacked-is Nothing es h = refl
+stacked-is Empty es h = refl
+stacked-is (Range lo hi) es h = refl
+stacked-is Cat [] h = absurd (omega arith)
+stacked-is Cat (b ∷ []) h = absurd (omega arith)
+stacked-is Cat (b ∷ a ∷ es) h = refl
+stacked-is Alt [] h = absurd (omega arith)
+stacked-is Alt (b ∷ []) h = absurd (omega arith)
+stacked-is Alt (b ∷ a ∷ es) h = refl
+stacked-is Star [] h = absurd (omega arith)
+stacked-is Star (b ∷ es) h = refl
+stacked-is (Either x) es h = refl
+
+-- and that one's limited normal form is made of theirs
+made-is : (n : Node) {es vs : List Re} → Each es vs → takes n ≤ length es → normalFit (top (stacked n es)) ≡ made n (second vs) (top vs)
+unfolding stacked normalFit
+made-is Nothing ps h = refl
+made-is Empty ps h = refl
+made-is (Range lo hi) ps h = refl
+made-is Cat none h = absurd (omega arith)
+made-is Cat (more p none) h = absurd (omega arith)
+made-is Cat (more p (more q ps)) h = rw (q, p)
+made-is Alt none h = absurd (omega arith)
+made-is Alt (more p none) h = absurd (omega arith)
+made-is Alt (more p (more q ps)) h = rw (q, p)
+made-is Star none h = absurd (omega arith)
+made-is Star (more p ps) h = rw p
+made-is (Either x) ps h = refl
+
+-- a second part that is too long makes the whole so, whatever the first is
+long-second : (m : Fit) → (m >>= λ a. Long) ≡ Long
+long-second Long = refl
+long-second (Fits a) = refl
+
+some-stacked : (n : Node) {es : List Re} → Some es → takes n ≤ length es → Some (stacked n es)
+unfolding stacked normalFit
+some-stacked Nothing o h = later o
+some-stacked Empty o h = later o
+some-stacked (Range lo hi) o h = later o
+some-stacked Cat (here b [] p) h = absurd (omega arith)
+some-stacked Cat (here b (a ∷ es) p) h = here (Re.Cat a b) es (rw p (long-second (normalFit a)))
+some-stacked Cat (later {e} (here a es p)) h = here (Re.Cat a e) es (rw p)
+some-stacked Cat (later (later o)) h = later o
+some-stacked Alt (here b [] p) h = absurd (omega arith)
+some-stacked Alt (here b (a ∷ es) p) h = here (Re.Alt a b) es (rw p (long-second (normalFit a)))
+some-stacked Alt (later {e} (here a es p)) h = here (Re.Alt a e) es (rw p)
+some-stacked Alt (later (later o)) h = later o
+some-stacked Star (here a es p) h = here (Re.Star a) es (rw p)
+some-stacked Star (later o) h = later o
+some-stacked (Either x) o h = later o
+
+-- ---- all nodes
+
+some-alone : {es : List Re} → Some es → length es ≡ 1 → normalFit (top es) ≡ Long
+some-alone (here a es p) e = p
+some-alone (later (here a es p)) e = absurd (omega arith)
+some-alone (later (later o)) e = absurd (omega arith)
+
+some-run : (ns : List Node) {es : List Re} (terms : ℕ) → Leaves terms ns → length es ≡ terms → Some es → normalFit (top (run ns es)) ≡ Long
+unfolding run
+some-run [] terms h e o = some-alone o (e ∙ h)
+some-run (n ∷ ns) {es} terms h e o =
+    let enough : takes n ≤ length es = omega (arith, h .1) in
+    let after : length (stacked n es) ≡ terms - takes n + 1 = rw (← e) (stacked-length n es enough) in
+    some-run ns (terms - takes n + 1) (h .2) after (some-stacked n o enough)
+
+each-alone : {es vs : List Re} → Each es vs → length es ≡ 1 → Fits (top vs) ≡ normalFit (top es)
+each-alone none e = absurd (omega arith)
+each-alone (more p ps) e = sym p
+
+run-fits : (ns : List Node) {es vs : List Re} (terms : ℕ) → Leaves terms ns → length es ≡ terms → Each es vs
+    → runFit ns vs ≡ normalFit (top (run ns es))
+unfolding run runFit
+run-fits [] terms h e ps = each-alone ps (e ∙ h)
+run-fits (n ∷ ns) {es} {vs} terms h e ps =
+    let enough : takes n ≤ length es = omega (arith, h .1) in
+    let after : length (stacked n es) ≡ terms - takes n + 1 = rw (← e) (stacked-length n es enough) in
+    let parts = stacked-is n es enough in
+    go (made n (second vs) (top vs)) (made-is n ps enough)
+    (λ p. some-run ns (terms - takes n + 1) (h .2) after (rw parts (here _ _ p)))
+    (λ v p. run-fits ns (terms - takes n + 1) (h .2) after (rw parts (more p (each-drop (takes n) ps))))
+  where
+    go : (m : Fit) → normalFit (top (stacked n es)) ≡ m
+        → (normalFit (top (stacked n es)) ≡ Long → normalFit (top (run ns (stacked n es))) ≡ Long)
+        → ((v : Re) → normalFit (top (stacked n es)) ≡ Fits v → runFit ns (v ∷ drop (takes n) vs) ≡ normalFit (top (run ns (stacked n es))))
+        → (m >>= λ v. runFit ns (v ∷ drop (takes n) vs)) ≡ normalFit (top (run ns (stacked n es)))
+    go Long p long fits = sym (long p)
+    go (Fits v) p long fits = fits v p
+
+-- the nodes of a valid rule make the limited normal form of its expression
+pub run-fit : (r : Rule) → ValidRule r → runFit (r .nodes) [] ≡ normalFit (expression r)
+run-fit r h = run-fits (r .nodes) 0 (h .leaves) refl none
+
+-- ---- what is made is in normal form and short
+
+pub record Held (v : Re) : Type 0 where
+  pub in-shape : InShape v
+  pub is-short : short v ≡ true
+
+fit-held : (r v : Re) → InShape r → fit r ≡ Fits v → Held v
+fit-held r v s = go (short r) refl
+  where
+    go : (b : Bool) → short r ≡ b → cond b (Fits r) Long ≡ Fits v → Held v
+    go true f e = let same : r ≡ v = cc in rw (← same) (record { in-shape = s; is-short = f })
+    go false f e = absurd (let z : _≡_ {A = ℕ} 0 1 = cc in omega arith)
+
+leaf-held : (r v : Re) → InShape r → short r ≡ true → _≡_ {A = Fit} (Fits r) (Fits v) → Held v
+leaf-held r v s f e = let same : r ≡ v = cc in rw (← same) (record { in-shape = s; is-short = f })
+
+pub made-held : (n : Node) (a b v : Re) → (2 ≤ takes n → InShape a) → (1 ≤ takes n → InShape b) → made n a b ≡ Fits v → Held v
+unfolding size
+made-held Nothing a b v s t e = leaf-held Re.Nothing v tt refl e
+made-held Empty a b v s t e = leaf-held Re.Empty v tt refl e
+made-held (Range lo hi) a b v s t e = leaf-held (Re.Range lo hi) v tt refl e
+made-held Cat a b v s t e = fit-held (cat a b) v (shape-cat a b (s (omega arith)) (t (omega arith))) e
+made-held Alt a b v s t e = fit-held (alt a b) v (shape-alt a b (s (omega arith)) (t (omega arith))) e
+made-held Star a b v s t e = fit-held (star b) v (shape-star b (t (omega arith))) e
+made-held (Either x) a b v s t e = fit-held (alt (large x) (small x)) v (shape-alt (large x) (small x) tt tt) e

@@ -1,0 +1,117 @@
+// The normal form of a rule, built in the work area from the rule's nodes as they stand in the book's bytes.
+// The nodes are worked off with a stack of cells; each result is counted, and one that is too long ends the work.
+ghost use Prim.Native.Nat.{_<_, _≤_};
+ghost use lib.ListN.{length};
+ghost use Rattle.number.specs.Limits.{firstLetter, lastLetter};
+ghost use Rattle.term.specs.Cells.{Below, Sound};
+ghost use Rattle.term.specs.Area.{Room};
+ghost use Rattle.normal.specs.Builds.{Leaf};
+ghost use Rattle.rule.specs.Work.{ruleScratch, Has, RuleMade, eitherCells, Operands, NodeMade, StarMade, EitherMade};
+ghost use Rattle.rule.specs.Work.{Working, Worked};
+use book::Node;
+use book::NodeRead;
+use normal::Made;
+use number::limits::CAPITAL;
+use number::limits::NODES;
+use number::limits::VERSION;
+use term::Term;
+
+// The cells that a rule's normal form may need above those that are held.
+pub const RULE_SCRATCH: usize = 34816;
+
+// A leaf as an answer.
+fn leaf_term(cells: &mut [u64], top: usize, node: Term) -> Made
+    requires { ⌜ Sound (now cells) top ⌝ }
+    requires { ⌜ top < length (now cells) ⌝ }
+    requires { ⌜ Below node top ⌝ }
+    ensures { λ r. ⌜ Leaf (now (cells .entry)) top node (now (cells .exit)) r ⌝ }
+{
+    let next = term::push(cells, top, node);
+    Made::Term(top, next)
+}
+
+// The choice of a letter's two forms, the capital first.
+fn either_term(cells: &mut [u64], top: usize, letter: usize) -> Made
+    requires { ⌜ Sound (now cells) top ⌝ }
+    requires { ⌜ Room (now cells) top eitherCells ⌝ }
+    requires { ⌜ firstLetter ≤ letter ⌝ }
+    requires { ⌜ letter ≤ lastLetter ⌝ }
+    ensures { λ r. ⌜ EitherMade (now (cells .entry)) top letter (now (cells .exit)) r ⌝ }
+{
+    let capital = letter - CAPITAL;
+    let second = term::push(cells, top, Term::Range(capital, capital));
+    let third = term::push(cells, second, Term::Range(letter, letter));
+    normal::alt_fit(cells, third, top, second)
+}
+
+// The repeat of a term, with the limit.
+fn star_term(cells: &mut [u64], top: usize, a: usize) -> Made
+    requires { ⌜ Sound (now cells) top ⌝ }
+    requires { ⌜ top < length (now cells) ⌝ }
+    requires { ⌜ a < top ⌝ }
+    ensures { λ r. ⌜ StarMade (now (cells .entry)) top a (now (cells .exit)) r ⌝ }
+{
+    let made = normal::star(cells, top, a);
+    if term::is_short(cells, made.root) {
+        Made::Term(made.root, made.top)
+    } else {
+        Made::Long
+    }
+}
+
+// What a node makes of the term on top of the stack, `b`, and the one below it, `a`; one that takes fewer ignores the others.
+fn node_term(cells: &mut [u64], top: usize, node: Node, a: usize, b: usize) -> Made
+    requires { ⌜ Operands node (now cells) top a b ⌝ }
+    ensures { λ r. ⌜ NodeMade node (now (cells .entry)) top a b (now (cells .exit)) r ⌝ }
+{
+    match node {
+        Node::Nothing => leaf_term(cells, top, Term::Nothing),
+        Node::Empty => leaf_term(cells, top, Term::Empty),
+        Node::Range(lo, hi) => leaf_term(cells, top, Term::Range(lo, hi)),
+        Node::Cat => normal::cat_fit(cells, top, a, b),
+        Node::Alt => normal::alt_fit(cells, top, a, b),
+        Node::Star => star_term(cells, top, b),
+        Node::Either(letter) => either_term(cells, top, letter),
+    }
+}
+
+// Works off the nodes that are left, so many terms high. Two spare places below the stack let every node read two numbers.
+fn work(
+    book: &[u8],
+    at: usize,
+    left: usize,
+    cells: &mut [u64],
+    top: usize,
+    stack: &mut [usize],
+    height: usize,
+) -> Made
+    requires { ⌜ Working (now book) at left (now cells) top (now stack) height ⌝ }
+    ensures { λ r. ⌜ Worked (now (book .entry)) at left (now (cells .entry)) top (now (stack .entry)) height (now (cells .exit)) r ⌝ }
+{
+    let b = stack[height + 1];
+    if left == 0 {
+        return Made::Term(b, top);
+    }
+    let a = stack[height];
+    let NodeRead::At(node, next) = book::read_node(book, at, VERSION) else {
+        return Made::Long;
+    };
+    let Made::Term(root, above) = node_term(cells, top, node, a, b) else {
+        return Made::Long;
+    };
+    let kept = height - book::takes(node);
+    stack[kept + 2] = root;
+    work(book, next, left - 1, cells, above, stack, kept + 1)
+}
+
+// The normal form of a rule of a book that is read, above `top`, or that it or a part of it is too long.
+pub fn rule_term(book: &[u8], rule: usize, cells: &mut [u64], top: usize) -> Made
+    requires { ⌜ Has (now book) rule ⌝ }
+    requires { ⌜ Sound (now cells) top ⌝ }
+    requires { ⌜ Room (now cells) top ruleScratch ⌝ }
+    ensures { λ r. ⌜ RuleMade (now (book .entry)) rule (now (cells .entry)) top (now (cells .exit)) r ⌝ }
+{
+    let place = book::rule_place(book, rule);
+    let mut stack = [0usize; NODES + 2];
+    work(book, place.at, place.nodes, cells, top, &mut stack, 0)
+}

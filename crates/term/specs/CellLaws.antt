@@ -1,0 +1,266 @@
+-- Laws of cells, proved: a stored node is read back, and a term below top stays what it is however the cells above change.
+-- Callers go by `found`, `frame` and the laws of Grown and Makes; none looks into a cell.
+use Prim.Native.Nat.{ℕ, zero, suc, _+_, _%_, _<_, _≤_}
+use native.Mathlib.Omega.{arith}
+use native.Mathlib.Decide.{decLt}
+use mathlib.Core.Path.{_≡_, refl, ap, _∙_}
+use mathlib.Core.List.{List}
+use mathlib.Core.Logic.{_≢_}
+use lib.ListN.{length, getD, set, length-set}
+use lib.Seq.{getD-set-same, getD-set-other}
+use Rattle.number.specs.Limits.{lastByte, workCells}
+use Rattle.meaning.specs.Re.{Re, isNothing, isEmpty}
+use Rattle.term.specs.declared.Term.{Term}
+use Rattle.term.specs.declared.Term.the-variants.{Nothing, Empty, Range, Cat, Alt, Star}
+use Rattle.term.specs.Cells.{fieldSize, kindSize, first, second, packed, nodeOf, cellOf, grow, termBy, term, Below, Sound}
+use Rattle.term.specs.Area.{Grown, Room, Makes}
+use Rattle.term.specs.Nodes.{Fields, nothingNode, emptyNode, Found, Pushed}
+
+-- ---- a cell gives its node back
+
+packed-kind : (k a b : ℕ) → k < kindSize → packed k a b % kindSize ≡ k
+packed-kind k a b h = omega arith
+
+packed-first : (k a b : ℕ) → k < kindSize → a < fieldSize → first (packed k a b) ≡ a
+packed-first k a b h f = omega arith
+
+packed-second : (k a b : ℕ) → k < kindSize → a < fieldSize → b < fieldSize → second (packed k a b) ≡ b
+packed-second k a b h f g = omega arith
+
+pub node-cell : (u : Term) → Fields u → nodeOf (cellOf u) ≡ u
+unfolding nodeOf cellOf
+node-cell Nothing f = refl
+node-cell Empty f = refl
+node-cell (Range lo hi) f =
+    simp (
+      packed-kind 2 lo hi (omega arith),
+      packed-first 2 lo hi (omega arith) (f .first),
+      packed-second 2 lo hi (omega arith) (f .first)
+          (f .second),
+    )
+node-cell (Cat a b) f =
+    simp (packed-kind 3 a b (omega arith), packed-first 3 a b (omega arith) (f .first), packed-second 3 a b (omega arith) (f .first) (f .second))
+node-cell (Alt a b) f =
+    simp (packed-kind 4 a b (omega arith), packed-first 4 a b (omega arith) (f .first), packed-second 4 a b (omega arith) (f .first) (f .second))
+node-cell (Star a) f =
+    simp (packed-kind 5 a 0 (omega arith), packed-first 5 a 0 (omega arith) (f .first))
+
+-- a node that may stand in a cell of the area fits a cell
+pub below-fields : (u : Term) (i : ℕ) → i < workCells → Below u i → Fields u
+below-fields Nothing i h b = record { first = omega arith; second = omega arith }
+below-fields Empty i h b = record { first = omega arith; second = omega arith }
+below-fields (Range lo hi) i h b = record { first = omega arith; second = omega arith }
+below-fields (Cat l r) i h b = record { first = omega arith; second = omega arith }
+below-fields (Alt l r) i h b = record { first = omega arith; second = omega arith }
+below-fields (Star l) i h b = record { first = omega arith; second = omega arith }
+
+-- ---- terms by their cells
+
+grow-agree : (u : Term) (i : ℕ) (f g : ℕ → Re) → Below u i → ((j : ℕ) → j < i → f j ≡ g j) → grow u f ≡ grow u g
+grow-agree Nothing i f g b h = refl
+grow-agree Empty i f g b h = refl
+grow-agree (Range lo hi) i f g b h = refl
+grow-agree (Cat l r) i f g b h = cc (h l (b .0), h r (b .1))
+grow-agree (Alt l r) i f g b h = cc (h l (b .0), h r (b .1))
+grow-agree (Star l) i f g b h = cc (h l b)
+
+-- the same cells below top
+abbrev pub Same : List ℕ → List ℕ → ℕ → Type 0
+Same s s′ top = (j : ℕ) → j < top → getD s′ j 0 ≡ getD s j 0
+
+-- steps enough are enough, and cells from top on do not matter
+agree : (n m : ℕ) (s s′ : List ℕ) (top i : ℕ) → Sound s top → Same s s′ top → i < top → i < n → i < m → termBy n s′ i ≡ termBy m s i
+unfolding termBy
+agree zero m s s′ top i ok same h k l = absurd (omega arith)
+agree (suc n) zero s s′ top i ok same h k l = absurd (omega arith)
+agree (suc n) (suc m) s s′ top i ok same h k l =
+    ap (λ (c : ℕ). grow (nodeOf c) (termBy n s′)) (same i h)
+    ∙ grow-agree (nodeOf (getD s i 0)) i (termBy n s′) (termBy m s) (ok .nodes i h)
+    (λ j b. agree n m s s′ top j ok same (omega arith) (omega arith) (omega arith))
+
+-- the frame: a term below top is that of its cells below top
+pub frame : (s s′ : List ℕ) (top i : ℕ) → Sound s top → Same s s′ top → i < top → term s′ i ≡ term s i
+unfolding term
+frame s s′ top i ok same h = agree (suc i) (suc i) s s′ top i ok same h (omega arith) (omega arith)
+
+-- a node's term by its children's terms
+pub term-node : (s : List ℕ) (top i : ℕ) → Sound s top → i < top → term s i ≡ grow (nodeOf (getD s i 0)) (term s)
+unfolding term termBy
+term-node s top i ok h =
+    grow-agree (nodeOf (getD s i 0)) i (termBy i s) (term s) (ok .nodes i h)
+    (λ j b. agree i (suc j) s s top j ok (λ k l. refl) (omega arith) b (omega arith))
+
+-- what node_at tells
+pub found : (s : List ℕ) (top i : ℕ) (u : Term) → Sound s top → i < top → u ≡ nodeOf (getD s i 0) → Found s i u
+found s top i u ok h e = rw e (record { below = ok .nodes i h; is = term-node s top i ok h })
+
+pub found-nothing : (s : List ℕ) (i : ℕ) (u : Term) → Found s i u → isNothing (term s i) ≡ nothingNode u
+found-nothing s i u f = rw (f .is) (go u)
+  where
+    go : (v : Term) → isNothing (grow v (term s)) ≡ nothingNode v
+    go Nothing = refl
+    go Empty = refl
+    go (Range lo hi) = refl
+    go (Cat a b) = refl
+    go (Alt a b) = refl
+    go (Star a) = refl
+
+pub found-empty : (s : List ℕ) (i : ℕ) (u : Term) → Found s i u → isEmpty (term s i) ≡ emptyNode u
+found-empty s i u f = rw (f .is) (go u)
+  where
+    go : (v : Term) → isEmpty (grow v (term s)) ≡ emptyNode v
+    go Nothing = refl
+    go Empty = refl
+    go (Range lo hi) = refl
+    go (Cat a b) = refl
+    go (Alt a b) = refl
+    go (Star a) = refl
+
+-- ---- bounds
+
+-- all bounds of its ranges are bytes
+abbrev pub Bounded : Re → Type 0
+Bounded Re.Nothing = Unit
+Bounded Re.Empty = Unit
+Bounded (Re.Range lo hi) = (lo ≤ lastByte) × (hi ≤ lastByte)
+Bounded (Re.Cat a b) = Bounded a × Bounded b
+Bounded (Re.Alt a b) = Bounded a × Bounded b
+Bounded (Re.Star a) = Bounded a
+
+grow-bounded : (u : Term) (i : ℕ) (f : ℕ → Re) → Below u i → ((j : ℕ) → j < i → Bounded (f j)) → Bounded (grow u f)
+grow-bounded Nothing i f b h = tt
+grow-bounded Empty i f b h = tt
+grow-bounded (Range lo hi) i f b h = b
+grow-bounded (Cat l r) i f b h = (h l (b .0), h r (b .1))
+grow-bounded (Alt l r) i f b h = (h l (b .0), h r (b .1))
+grow-bounded (Star l) i f b h = h l b
+
+by-bounded : (n : ℕ) (s : List ℕ) (top i : ℕ) → Sound s top → i < top → Bounded (termBy n s i)
+unfolding termBy
+by-bounded zero s top i ok h = tt
+by-bounded (suc n) s top i ok h =
+    grow-bounded (nodeOf (getD s i 0)) i (termBy n s) (ok .nodes i h) (λ j b. by-bounded n s top j ok (omega arith))
+
+pub term-bounded : (s : List ℕ) (top i : ℕ) → Sound s top → i < top → Bounded (term s i)
+unfolding term
+term-bounded s top i ok h = by-bounded (suc i) s top i ok h
+
+-- ---- the area and its growth
+
+-- an area in which nothing stands yet
+pub sound-none : (s : List ℕ) → length s ≤ workCells → Sound s 0
+sound-none s h = record { nodes = λ i k. absurd (omega arith); room = omega arith; small = h }
+
+-- an area that is changed from top on only, as by terms above it that are given up
+pub sound-same : {s : List ℕ} {top : ℕ} (s′ : List ℕ) → Sound s top → Same s s′ top → length s′ ≡ length s → Sound s′ top
+sound-same s′ ok same e =
+    record {
+      nodes = λ i h. rw (same i h) (ok .nodes i h);
+      room = omega arith;
+      small = omega arith;
+    }
+
+pub sound-less : {s : List ℕ} {top : ℕ} (less : ℕ) → Sound s top → less ≤ top → Sound s less
+sound-less less ok h =
+    record {
+      nodes = λ i k. ok .nodes i (omega arith);
+      room = omega arith;
+      small = ok .small;
+    }
+
+pub grown-refl : {s : List ℕ} {top : ℕ} → Sound s top → Grown s top s top
+grown-refl ok =
+    record {
+      up = omega arith;
+      same-length = refl;
+      kept-below = λ i h. refl;
+      kept-above = λ i h. refl;
+      sound = ok;
+    }
+
+pub grown-trans : {s s′ s″ : List ℕ} {top top′ top″ : ℕ} → Grown s top s′ top′ → Grown s′ top′ s″ top″ → Grown s top s″ top″
+grown-trans g h =
+    record {
+      up = omega arith;
+      same-length = h .same-length ∙ g .same-length;
+      kept-below = λ i k. h .kept-below i (omega arith) ∙ g .kept-below i k;
+      kept-above = λ i k. h .kept-above i k ∙ g .kept-above i (omega arith);
+      sound = h .sound;
+    }
+
+-- the cells that are left after a growth of at most `used` cells
+pub room-after : {s s′ : List ℕ} {top top′ : ℕ} (used more : ℕ) → Grown s top s′ top′ → top′ ≤ top + used → Room s top (used + more) → Room s′ top′
+    more
+room-after used more g h r = omega arith
+
+-- a term that stood below the old top
+pub grown-term : {s s′ : List ℕ} {top top′ : ℕ} (i : ℕ) → Grown s top s′ top′ → Sound s top → i < top → term s′ i ≡ term s i
+grown-term {s} {s′} {top} i g ok h = frame s s′ top i ok (g .kept-below) h
+
+-- ---- what was made
+
+-- a term that stands already is made with no cell
+pub makes-old : {s : List ℕ} {top : ℕ} (i more : ℕ) (v : Re) → Sound s top → i < top → term s i ≡ v → Makes s top s i top v more
+makes-old i more v ok h e = record { grown = grown-refl ok; within = h; is = e; few = omega arith }
+
+-- a larger bound, another name of the term
+pub makes-more : {s s′ : List ℕ} {top root top′ more : ℕ} {v : Re} (most : ℕ) → Makes s top s′ root top′ v more → more ≤ most
+    → Makes s top s′ root top′ v most
+makes-more most m h = record { grown = m .grown; within = m .within; is = m .is; few = omega arith }
+
+pub makes-as : {s s′ : List ℕ} {top root top′ more : ℕ} {v : Re} (w : Re) → Makes s top s′ root top′ v more → v ≡ w
+    → Makes s top s′ root top′ w more
+makes-as w m e = record { grown = m .grown; within = m .within; is = m .is ∙ e; few = m .few }
+
+-- made after a growth of at most `before` cells
+pub makes-after : {s s′ s″ : List ℕ} {top top′ root top″ more : ℕ} {v : Re} (before : ℕ) → Grown s top s′ top′ → top′ ≤ top + before
+    → Makes s′ top′ s″ root top″ v more → Makes s top s″ root top″ v (before + more)
+makes-after before g h m = record { grown = grown-trans g (m .grown); within = m .within; is = m .is; few = omega arith }
+
+-- made, and still there after a growth of at most `after` cells
+pub makes-kept : {s s′ s″ : List ℕ} {top top′ root top″ more : ℕ} {v : Re} (after : ℕ) → Makes s top s′ root top′ v more
+    → Grown s′ top′ s″ top″ → top″ ≤ top′ + after → Makes s top s″ root top″ v (more + after)
+makes-kept {s} {s′} {s″} {top} {top′} {root} after m g h =
+    record {
+      grown = grown-trans (m .grown) g;
+      within = omega arith;
+      is = grown-term root g (m .grown .sound) (m .within) ∙ m .is;
+      few = omega arith;
+    }
+
+-- ---- a stored node
+
+-- what holds below top and at top holds below the next
+below-next : (P : ℕ → Type 0) (top i : ℕ) → i < top + 1 → (i < top → P i) → P top → P i
+below-next P top i h f p = elim (decLt i top) [ yes k ↦ f k | no k ↦ let e : top ≡ i = omega arith in rw e at p ]
+
+pub pushed : (s : List ℕ) (top : ℕ) (u : Term) (s′ : List ℕ) (next : ℕ) → Sound s top → top < length s → Below u top
+    → s′ ≡ set s top (cellOf u) → next ≡ top + 1 → Pushed s top u s′ next
+pushed s top u s′ next ok h b e n =
+    let small : top < workCells = omega arith in
+    let here : getD s′ top 0 ≡ cellOf u = rw e (getD-set-same s top (cellOf u) 0 h) in
+    let node : nodeOf (getD s′ top 0) ≡ u = rw here (node-cell u (below-fields u top small b)) in
+    let other : (i : ℕ) → i ≢ top → getD s′ i 0 ≡ getD s i 0 = λ i d. rw e (getD-set-other s top i (cellOf u) 0 d) in
+    let long : length s′ ≡ length s = rw e (length-set s top (cellOf u)) in
+    let same : Same s s′ top = λ i k. other i (λ z. omega arith) in
+    let sound : Sound s′ next = record {
+      nodes = λ i k. below-next (λ (j : ℕ). Below (nodeOf (getD s′ j 0)) j) top i (omega arith) (λ l. rw (same i l) (ok .nodes i l)) (rw node b);
+      room = omega arith;
+      small = omega arith;
+    } in
+    record {
+      memory = e;
+      after = n;
+      makes = record {
+        grown = record {
+          up = omega arith;
+          same-length = long;
+          kept-below = same;
+          kept-above = λ i k. other i (λ z. omega arith);
+          sound = sound;
+        };
+        within = omega arith;
+        is = term-node s′ next top sound (omega arith) ∙ rw node (grow-agree u top (term s′) (term s) b (λ j k. frame s s′ top j ok same k));
+        few = omega arith;
+      };
+    }

@@ -1,0 +1,79 @@
+-- A term in the work area: one cell a node, its kind and two fields, a range's bounds or the numbers of the cells of its children.
+-- A child's number is below its parent's, so a term is read off by going down.
+use Prim.Native.Nat.{ℕ, zero, suc, _+_, _*_, _/_, _%_, _<_, _≤_}
+use mathlib.Core.Bool.{Bool, true, false, cond}
+use mathlib.Core.List.{List}
+use lib.Dec.{eqb}
+use lib.ListN.{length, getD}
+use Rattle.number.specs.Limits.{lastByte, workCells}
+use Rattle.meaning.specs.Re.{Re}
+use Rattle.term.specs.declared.Term.{Term}
+use Rattle.term.specs.declared.Term.the-variants.{Nothing, Empty, Range, Cat, Alt, Star}
+
+-- what a field can hold: any number of a cell
+abbrev pub fieldSize : ℕ
+fieldSize = workCells
+
+-- the kinds' places in a cell, as in the order of terms
+abbrev pub kindSize : ℕ
+kindSize = 8
+
+abbrev pub first : ℕ → ℕ
+first cell = cell / kindSize % fieldSize
+
+abbrev pub second : ℕ → ℕ
+second cell = cell / (kindSize * fieldSize) % fieldSize
+
+-- the node in a cell
+unfoldable pub nodeOf : ℕ → Term
+nodeOf cell =
+    cond (eqb (cell % kindSize) 1) Empty
+    (cond (eqb (cell % kindSize) 2) (Range (first cell) (second cell))
+    (cond (eqb (cell % kindSize) 3) (Cat (first cell) (second cell))
+    (cond (eqb (cell % kindSize) 4) (Alt (first cell) (second cell))
+    (cond (eqb (cell % kindSize) 5) (Star (first cell))
+    Nothing))))
+
+-- the cell of a node
+abbrev pub packed : ℕ → ℕ → ℕ → ℕ
+packed kind a b = kind + kindSize * a + kindSize * fieldSize * b
+
+unfoldable pub cellOf : Term → ℕ
+cellOf Nothing = packed 0 0 0
+cellOf Empty = packed 1 0 0
+cellOf (Range lo hi) = packed 2 lo hi
+cellOf (Cat a b) = packed 3 a b
+cellOf (Alt a b) = packed 4 a b
+cellOf (Star a) = packed 5 a 0
+
+-- the term of a node, given the terms of its children
+abbrev pub grow : Term → (ℕ → Re) → Re
+grow Nothing child = Re.Nothing
+grow Empty child = Re.Empty
+grow (Range lo hi) child = Re.Range lo hi
+grow (Cat a b) child = Re.Cat (child a) (child b)
+grow (Alt a b) child = Re.Alt (child a) (child b)
+grow (Star a) child = Re.Star (child a)
+
+-- the term in cell i, going down at most so many steps, and going down as far as need be
+unfoldable pub termBy : ℕ → List ℕ → ℕ → Re
+termBy zero s i = Re.Nothing
+termBy (suc n) s i = grow (nodeOf (getD s i 0)) (termBy n s)
+
+unfoldable pub term : List ℕ → ℕ → Re
+term s i = termBy (suc i) s i
+
+-- a node that may stand in cell i: its children below it, its bounds bytes
+abbrev pub Below : Term → ℕ → Type 0
+Below Nothing i = Unit
+Below Empty i = Unit
+Below (Range lo hi) i = (lo ≤ lastByte) × (hi ≤ lastByte)
+Below (Cat a b) i = (a < i) × (b < i)
+Below (Alt a b) i = (a < i) × (b < i)
+Below (Star a) i = a < i
+
+-- all cells below top hold such nodes
+pub record Sound (s : List ℕ) (top : ℕ) : Type 0 where
+  pub nodes : (i : ℕ) → i < top → Below (nodeOf (getD s i 0)) i
+  pub room : top ≤ length s
+  pub small : length s ≤ workCells

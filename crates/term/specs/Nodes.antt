@@ -1,0 +1,77 @@
+-- What the code asks of a node, and what reading and storing one tells; also the code's answer of a comparison.
+-- Found and Pushed are the records that callers of node_at and push cite.
+use Prim.Native.Nat.{ℕ, _+_, _<_, Ordering, Ordering·lt, Ordering·eq, Ordering·gt}
+use mathlib.Core.Path.{_≡_}
+use mathlib.Core.Bool.{Bool, true, false}
+use mathlib.Core.List.{List}
+use lib.ListN.{set}
+use Rattle.term.specs.declared.Term.{Term}
+use Rattle.term.specs.declared.Term.the-variants.{Nothing, Empty, Range, Cat, Alt, Star}
+use Rattle.term.specs.declared.Order.{Order}
+use Rattle.term.specs.declared.Order.the-variants.{Less, Equal, Greater}
+use Rattle.term.specs.Cells.{fieldSize, cellOf, grow, term, Below}
+use Rattle.term.specs.Area.{Makes}
+
+-- the place of its kind in the order of terms
+abbrev pub kindOf : Term → ℕ
+kindOf Nothing = 0
+kindOf Empty = 1
+kindOf (Range lo hi) = 2
+kindOf (Cat a b) = 3
+kindOf (Alt a b) = 4
+kindOf (Star a) = 5
+
+-- its fields; a kind that lacks one has 0 for it
+abbrev pub firstOf : Term → ℕ
+firstOf Nothing = 0
+firstOf Empty = 0
+firstOf (Range lo hi) = lo
+firstOf (Cat a b) = a
+firstOf (Alt a b) = a
+firstOf (Star a) = a
+
+abbrev pub secondOf : Term → ℕ
+secondOf Nothing = 0
+secondOf Empty = 0
+secondOf (Range lo hi) = hi
+secondOf (Cat a b) = b
+secondOf (Alt a b) = b
+secondOf (Star a) = 0
+
+-- a cell can hold it
+pub record Fields (u : Term) : Type 0 where
+  pub first : firstOf u < fieldSize
+  pub second : secondOf u < fieldSize
+
+abbrev pub nothingNode : Term → Bool
+nothingNode Nothing = true
+nothingNode Empty = false
+nothingNode (Range lo hi) = false
+nothingNode (Cat a b) = false
+nothingNode (Alt a b) = false
+nothingNode (Star a) = false
+
+abbrev pub emptyNode : Term → Bool
+emptyNode Nothing = false
+emptyNode Empty = true
+emptyNode (Range lo hi) = false
+emptyNode (Cat a b) = false
+emptyNode (Alt a b) = false
+emptyNode (Star a) = false
+
+-- the code's answer of a comparison
+abbrev pub ordering : Order → Ordering
+ordering Less = Ordering·lt
+ordering Equal = Ordering·eq
+ordering Greater = Ordering·gt
+
+-- what the node in a cell tells: its children stand below it, and its term is made of theirs
+pub record Found (s : List ℕ) (i : ℕ) (u : Term) : Type 0 where
+  pub below : Below u i
+  pub is : term s i ≡ grow u (term s)
+
+-- a node was stored at top: the memory exactly, and the term that it makes of the terms that stood there before
+pub record Pushed (s : List ℕ) (top : ℕ) (u : Term) (s′ : List ℕ) (next : ℕ) : Type 0 where
+  pub memory : s′ ≡ set s top (cellOf u)
+  pub after : next ≡ top + 1
+  pub makes : Makes s top s′ top next (grow u (term s)) 1

@@ -1,0 +1,269 @@
+-- Laws for the functions that read a term off its nodes, one for each of their returns: size, the empty text, order.
+-- Each says what the term's answer is by the answers of its children, over what reading the node told.
+use Prim.Native.Nat.{ℕ, zero, suc, _+_, _-_, _<_, _≤_, compare, Ordering, Ordering·lt, Ordering·eq, Ordering·gt, compare·zero-zero, compare·zero-suc, compare·suc-zero, compare·suc-suc}
+use native.Mathlib.Omega.{arith}
+use native.Mathlib.Decide.{decLt}
+use mathlib.Core.Path.{_≡_, refl, sym, _∙_}
+use mathlib.Core.Bool.{true, false, cond}
+use mathlib.Core.List.{List}
+use lib.Dec.{eqb, leb, ltb}
+use borrow.Author.Tests.{lt-ltb, le-ltb, le-leb, lt-leb}
+use Rattle.number.specs.Limits.{treeNodes}
+use Rattle.meaning.specs.Re.{Re, size}
+use Rattle.meaning.specs.Order.{order, also, kind}
+use Rattle.meaning.specs.OrderLaws.{order-self}
+use Rattle.meaning.specs.Derive.{nullable}
+use Rattle.term.specs.declared.Term.{Term}
+use Rattle.term.specs.declared.Term.the-variants.{Nothing, Empty, Range, Cat, Alt, Star}
+use Rattle.term.specs.Cells.{packed, cellOf, grow, term, Below}
+use Rattle.term.specs.Nodes.{kindOf, firstOf, secondOf, Found}
+
+-- ---- a node by its parts
+
+pub cell-parts : (u : Term) → packed (kindOf u) (firstOf u) (secondOf u) ≡ cellOf u
+unfolding cellOf
+cell-parts Nothing = refl
+cell-parts Empty = refl
+cell-parts (Range lo hi) = refl
+cell-parts (Cat a b) = refl
+cell-parts (Alt a b) = refl
+cell-parts (Star a) = refl
+
+pub kind-most : (u : Term) → kindOf u ≤ 5
+kind-most Nothing = omega arith
+kind-most Empty = omega arith
+kind-most (Range lo hi) = omega arith
+kind-most (Cat a b) = omega arith
+kind-most (Alt a b) = omega arith
+kind-most (Star a) = omega arith
+
+-- what has children has them below
+below-first : (u : Term) (i : ℕ) → Below u i → 2 < kindOf u → firstOf u < i
+below-first Nothing i b h = absurd (omega arith)
+below-first Empty i b h = absurd (omega arith)
+below-first (Range lo hi) i b h = absurd (omega arith)
+below-first (Cat l r) i b h = b .0
+below-first (Alt l r) i b h = b .0
+below-first (Star l) i b h = b
+
+below-second : (u : Term) (i : ℕ) → Below u i → 2 < kindOf u → (kindOf u ≡ 5 → ⊥) → secondOf u < i
+below-second Nothing i b h n = absurd (omega arith)
+below-second Empty i b h n = absurd (omega arith)
+below-second (Range lo hi) i b h n = absurd (omega arith)
+below-second (Cat l r) i b h n = b .1
+below-second (Alt l r) i b h n = b .1
+below-second (Star l) i b h n = absurd (n refl)
+
+pub first-below : {s : List ℕ} {i : ℕ} {u : Term} → Found s i u → 2 < kindOf u → firstOf u < i
+first-below {s} {i} {u} f h = below-first u i (f .below) h
+
+pub second-below : {s : List ℕ} {i : ℕ} {u : Term} → Found s i u → 2 < kindOf u → (kindOf u ≡ 5 → ⊥) → secondOf u < i
+second-below {s} {i} {u} f h n = below-second u i (f .below) h n
+
+-- a node that was told apart
+pub found-as : {s : List ℕ} {i : ℕ} {u : Term} (v : Term) → Found s i u → u ≡ v → Found s i v
+found-as v f e = rw e at f
+
+-- ---- size
+
+pub leaf-size : (s : List ℕ) (i : ℕ) (u : Term) → Found s i u → kindOf u < 3 → size (term s i) ≡ 1
+unfolding size
+leaf-size s i Nothing f h = rw (f .is)
+leaf-size s i Empty f h = rw (f .is)
+leaf-size s i (Range lo hi) f h = rw (f .is)
+leaf-size s i (Cat a b) f h = absurd (omega arith)
+leaf-size s i (Alt a b) f h = absurd (omega arith)
+leaf-size s i (Star a) f h = absurd (omega arith)
+
+pub cat-size : (s : List ℕ) (i a b : ℕ) → Found s i (Cat a b) → size (term s i) ≡ 1 + size (term s a) + size (term s b)
+unfolding size
+cat-size s i a b f = rw (f .is)
+
+pub alt-size : (s : List ℕ) (i a b : ℕ) → Found s i (Alt a b) → size (term s i) ≡ 1 + size (term s a) + size (term s b)
+unfolding size
+alt-size s i a b f = rw (f .is)
+
+pub star-size : (s : List ℕ) (i a : ℕ) → Found s i (Star a) → size (term s i) ≡ 1 + size (term s a)
+unfolding size
+star-size s i a f = rw (f .is)
+
+-- something is left of one node more than allowed exactly if there are few enough
+pub left-short : (n left : ℕ) → left ≡ treeNodes + 1 - n → ltb 0 left ≡ leb n treeNodes
+left-short n left e =
+    elim (decLt treeNodes n) [
+      | yes h ↦ le-ltb 0 left (omega arith) ∙ sym (lt-leb n treeNodes h)
+      | no h ↦ lt-ltb 0 left (omega arith) ∙ sym (le-leb n treeNodes (omega arith))
+    ]
+
+-- ---- the empty text
+
+pub nothing-null : (s : List ℕ) (i : ℕ) → Found s i Nothing → nullable (term s i) ≡ false
+unfolding nullable
+nothing-null s i f = rw (f .is)
+
+pub empty-null : (s : List ℕ) (i : ℕ) → Found s i Empty → nullable (term s i) ≡ true
+unfolding nullable
+empty-null s i f = rw (f .is)
+
+pub range-null : (s : List ℕ) (i lo hi : ℕ) → Found s i (Range lo hi) → nullable (term s i) ≡ false
+unfolding nullable
+range-null s i lo hi f = rw (f .is)
+
+pub star-null : (s : List ℕ) (i a : ℕ) → Found s i (Star a) → nullable (term s i) ≡ true
+unfolding nullable
+star-null s i a f = rw (f .is)
+
+pub cat-null-on : (s : List ℕ) (i a b : ℕ) → Found s i (Cat a b) → nullable (term s a) ≡ true → nullable (term s i) ≡ nullable (term s b)
+unfolding nullable
+cat-null-on s i a b f e = rw (f .is, e)
+
+pub cat-null-off : (s : List ℕ) (i a b : ℕ) → Found s i (Cat a b) → nullable (term s a) ≡ false → nullable (term s i) ≡ false
+unfolding nullable
+cat-null-off s i a b f e = rw (f .is, e)
+
+pub alt-null-on : (s : List ℕ) (i a b : ℕ) → Found s i (Alt a b) → nullable (term s a) ≡ true → nullable (term s i) ≡ true
+unfolding nullable
+alt-null-on s i a b f e = rw (f .is, e)
+
+pub alt-null-off : (s : List ℕ) (i a b : ℕ) → Found s i (Alt a b) → nullable (term s a) ≡ false → nullable (term s i) ≡ nullable (term s b)
+unfolding nullable
+alt-null-off s i a b f e = rw (f .is, e)
+
+-- ---- order
+
+pub compare-less : (m n : ℕ) → m < n → compare m n ≡ Ordering·lt
+compare-less zero zero h = absurd (omega arith)
+compare-less zero (suc n) h = compare·zero-suc n
+compare-less (suc m) zero h = absurd (omega arith)
+compare-less (suc m) (suc n) h = compare·suc-suc m n ∙ compare-less m n (omega arith)
+
+pub compare-more : (m n : ℕ) → n < m → compare m n ≡ Ordering·gt
+compare-more zero zero h = absurd (omega arith)
+compare-more zero (suc n) h = absurd (omega arith)
+compare-more (suc m) zero h = compare·suc-zero m
+compare-more (suc m) (suc n) h = compare·suc-suc m n ∙ compare-more m n (omega arith)
+
+pub compare-same : (m n : ℕ) → m ≡ n → compare m n ≡ Ordering·eq
+compare-same zero zero h = compare·zero-zero
+compare-same zero (suc n) h = absurd (omega arith)
+compare-same (suc m) zero h = absurd (omega arith)
+compare-same (suc m) (suc n) h = compare·suc-suc m n ∙ compare-same m n (omega arith)
+
+-- two kinds decide
+kinds-less : (x y : Re) → compare (kind x) (kind y) ≡ Ordering·lt → order x y ≡ Ordering·lt
+unfolding order
+kinds-less Re.Nothing y e = e
+kinds-less Re.Empty y e = e
+kinds-less (Re.Range lo hi) y e = rw e
+kinds-less (Re.Cat a b) y e = rw e
+kinds-less (Re.Alt a b) y e = rw e
+kinds-less (Re.Star a) y e = rw e
+
+kinds-more : (x y : Re) → compare (kind x) (kind y) ≡ Ordering·gt → order x y ≡ Ordering·gt
+unfolding order
+kinds-more Re.Nothing y e = e
+kinds-more Re.Empty y e = e
+kinds-more (Re.Range lo hi) y e = rw e
+kinds-more (Re.Cat a b) y e = rw e
+kinds-more (Re.Alt a b) y e = rw e
+kinds-more (Re.Star a) y e = rw e
+
+kind-grow : (u : Term) (f : ℕ → Re) → kind (grow u f) ≡ kindOf u
+kind-grow Nothing f = refl
+kind-grow Empty f = refl
+kind-grow (Range lo hi) f = refl
+kind-grow (Cat a b) f = refl
+kind-grow (Alt a b) f = refl
+kind-grow (Star a) f = refl
+
+-- a node from its parts, so that its kind tells its form
+abbrev rebuilt : ℕ → ℕ → ℕ → Term
+rebuilt k a b =
+    cond (eqb k 0) Nothing
+    (cond (eqb k 1) Empty
+    (cond (eqb k 2) (Range a b)
+    (cond (eqb k 3) (Cat a b)
+    (cond (eqb k 4) (Alt a b)
+    (Star a)))))
+
+rebuild : (u : Term) → u ≡ rebuilt (kindOf u) (firstOf u) (secondOf u)
+rebuild Nothing = refl
+rebuild Empty = refl
+rebuild (Range lo hi) = refl
+rebuild (Cat a b) = refl
+rebuild (Alt a b) = refl
+rebuild (Star a) = refl
+
+of-kind : (u : Term) (k : ℕ) → kindOf u ≡ k → u ≡ rebuilt k (firstOf u) (secondOf u)
+of-kind u k e = rw (← e) (rebuild u)
+
+order-ranges : (u v : Term) (f : ℕ → Re) (a b a′ b′ : ℕ) → u ≡ Range a b → v ≡ Range a′ b′
+    → order (grow u f) (grow v f) ≡ also (compare a a′) (compare b b′)
+unfolding order
+order-ranges u v f a b a′ b′ d e = rw (d, e)
+
+order-cats : (u v : Term) (f : ℕ → Re) (a b a′ b′ : ℕ) → u ≡ Cat a b → v ≡ Cat a′ b′
+    → order (grow u f) (grow v f) ≡ also (order (f a) (f a′)) (order (f b) (f b′))
+unfolding order
+order-cats u v f a b a′ b′ d e = rw (d, e)
+
+order-alts : (u v : Term) (f : ℕ → Re) (a b a′ b′ : ℕ) → u ≡ Alt a b → v ≡ Alt a′ b′
+    → order (grow u f) (grow v f) ≡ also (order (f a) (f a′)) (order (f b) (f b′))
+unfolding order
+order-alts u v f a b a′ b′ d e = rw (d, e)
+
+order-stars : (u v : Term) (f : ℕ → Re) (a a′ : ℕ) → u ≡ Star a → v ≡ Star a′
+    → order (grow u f) (grow v f) ≡ order (f a) (f a′)
+unfolding order
+order-stars u v f a a′ d e = rw (d, e)
+
+order-leaves : (u v : Term) (f : ℕ → Re) → kindOf u ≡ kindOf v → kindOf u < 2 → order (grow u f) (grow v f) ≡ Ordering·eq
+unfolding order
+order-leaves Nothing v f e h = rw kind-grow (compare-same 0 (kindOf v) e)
+order-leaves Empty v f e h = rw kind-grow (compare-same 1 (kindOf v) e)
+order-leaves (Range lo hi) v f e h = absurd (omega arith)
+order-leaves (Cat a b) v f e h = absurd (omega arith)
+order-leaves (Alt a b) v f e h = absurd (omega arith)
+order-leaves (Star a) v f e h = absurd (omega arith)
+
+-- a term by itself
+pub order-one : (s : List ℕ) (i j : ℕ) → i ≡ j → order (term s i) (term s j) ≡ Ordering·eq
+order-one s i j e = rw e (order-self (term s j))
+
+-- what two nodes tell
+module _ (s : List ℕ) (i j : ℕ) (u v : Term) (x : Found s i u) (y : Found s j v) where
+  by-nodes : order (term s i) (term s j) ≡ order (grow u (term s)) (grow v (term s))
+  by-nodes = cc (x .is, y .is)
+
+  pub order-less : kindOf u < kindOf v → order (term s i) (term s j) ≡ Ordering·lt
+  order-less h =
+      by-nodes ∙ kinds-less (grow u (term s)) (grow v (term s)) (rw (kind-grow u, kind-grow v) (compare-less (kindOf u) (kindOf v) h))
+
+  pub order-more : kindOf v < kindOf u → order (term s i) (term s j) ≡ Ordering·gt
+  order-more h =
+      by-nodes ∙ kinds-more (grow u (term s)) (grow v (term s)) (rw (kind-grow u, kind-grow v) (compare-more (kindOf u) (kindOf v) h))
+
+  pub order-leaf : kindOf u ≡ kindOf v → kindOf u < 2 → order (term s i) (term s j) ≡ Ordering·eq
+  order-leaf e h = by-nodes ∙ order-leaves u v (term s) e h
+
+  -- the parts come as the code has them, each with what it is
+  pub order-range : kindOf u ≡ kindOf v → kindOf u ≡ 2 → {a b a′ b′ : ℕ} → a ≡ firstOf u → b ≡ secondOf u → a′ ≡ firstOf v → b′ ≡ secondOf v
+      → also (compare a a′) (compare b b′) ≡ order (term s i) (term s j)
+  order-range e h {a} {b} {a′} {b′} p q p′ q′ =
+      sym (by-nodes ∙ order-ranges u v (term s) a b a′ b′ (rw (p, q) (of-kind u 2 h)) (rw (p′, q′) (of-kind v 2 (sym e ∙ h))))
+
+  pub order-star : kindOf u ≡ kindOf v → kindOf u ≡ 5 → {a a′ : ℕ} → a ≡ firstOf u → a′ ≡ firstOf v
+      → order (term s a) (term s a′) ≡ order (term s i) (term s j)
+  order-star e h {a} {a′} p p′ =
+      sym (by-nodes ∙ order-stars u v (term s) a a′ (rw p (of-kind u 5 h)) (rw p′ (of-kind v 5 (sym e ∙ h))))
+
+  pub order-pair : kindOf u ≡ kindOf v → 2 < kindOf u → (kindOf u ≡ 5 → ⊥)
+      → {a b a′ b′ : ℕ} → a ≡ firstOf u → b ≡ secondOf u → a′ ≡ firstOf v → b′ ≡ secondOf v
+      → {o : Ordering} → o ≡ order (term s a) (term s a′) → also o (order (term s b) (term s b′)) ≡ order (term s i) (term s j)
+  order-pair e h n {a} {b} {a′} {b′} p q p′ q′ d =
+      rw d
+      (sym (by-nodes ∙ elim (decLt (kindOf u) 4) [
+        | yes k ↦ order-cats u v (term s) a b a′ b′ (rw (p, q) (of-kind u 3 (omega arith))) (rw (p′, q′) (of-kind v 3 (omega arith)))
+        | no k ↦ order-alts u v (term s) a b a′ b′ (rw (p, q) (of-kind u 4 (omega (arith, kind-most u)))) (rw (p′, q′)
+            (of-kind v 4 (omega (arith, kind-most u))))
+      ]))

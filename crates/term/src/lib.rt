@@ -1,0 +1,290 @@
+// Terms in a lent work area of cells: nodes read and stored, counted, tested for the empty text, compared.
+// A node is an enum by value; a child's number is below its parent's, so every recursion ends.
+ghost use mathlib.Core.Path.{_≡_};
+ghost use Prim.Native.Nat.{_+_, _-_, _<_, compare};
+ghost use lib.Dec.{leb};
+ghost use lib.ListN.{length, getD};
+ghost use Rattle.number.specs.Limits.{treeNodes};
+ghost use Rattle.meaning.specs.Re.{size};
+ghost use Rattle.meaning.specs.Derive.{nullable as matchesEmpty};
+ghost use Rattle.meaning.specs.Order.{order, also};
+ghost use Rattle.term.specs.Cells.{fieldSize, kindSize, packed, nodeOf, cellOf, term, Below, Sound};
+ghost use Rattle.term.specs.Nodes.{kindOf, firstOf, secondOf, nothingNode, emptyNode, ordering, Fields, Pushed};
+use number::limits::TREE_NODES;
+
+// A node of a term: a range's bounds, or the numbers of the cells of its children.
+pub enum Term {
+    Nothing,
+    Empty,
+    Range(usize, usize),
+    Cat(usize, usize),
+    Alt(usize, usize),
+    Star(usize),
+}
+
+// How one thing stands to another in an order.
+pub enum Order {
+    Less,
+    Equal,
+    Greater,
+}
+
+// The packing of a cell: the kind lowest, then two fields, each as wide as a cell's number; what is above stays free.
+const KIND_SIZE: u64 = 8;
+
+const FIELD_SIZE: u64 = 65536;
+
+// The places of two kinds in the order: those before a range have no parts.
+const RANGE: usize = 2;
+
+const STAR: usize = 5;
+
+// The node of a cell.
+fn unpack(cell: u64) -> Term
+    ensures { λ r. ⌜ r ≡ nodeOf cell ⌝ }
+{
+    let kind = cell % KIND_SIZE;
+    let first = (cell / KIND_SIZE % FIELD_SIZE) as usize;
+    let second = (cell / (KIND_SIZE * FIELD_SIZE) % FIELD_SIZE) as usize;
+    if kind == 1 {
+        return Term::Empty;
+    }
+    if kind == 2 {
+        return Term::Range(first, second);
+    }
+    if kind == 3 {
+        return Term::Cat(first, second);
+    }
+    if kind == 4 {
+        return Term::Alt(first, second);
+    }
+    if kind == 5 {
+        return Term::Star(first);
+    }
+    Term::Nothing
+}
+
+// The place of a node's kind in the order of terms, and its fields, 0 where it has none.
+pub fn kind_of(t: Term) -> usize
+    ensures { λ r. ⌜ r ≡ kindOf t ⌝ }
+{
+    match t {
+        Term::Nothing => 0,
+        Term::Empty => 1,
+        Term::Range(_, _) => 2,
+        Term::Cat(_, _) => 3,
+        Term::Alt(_, _) => 4,
+        Term::Star(_) => 5,
+    }
+}
+
+pub fn first_of(t: Term) -> usize
+    ensures { λ r. ⌜ r ≡ firstOf t ⌝ }
+{
+    match t {
+        Term::Nothing => 0,
+        Term::Empty => 0,
+        Term::Range(lo, _) => lo,
+        Term::Cat(a, _) => a,
+        Term::Alt(a, _) => a,
+        Term::Star(a) => a,
+    }
+}
+
+pub fn second_of(t: Term) -> usize
+    ensures { λ r. ⌜ r ≡ secondOf t ⌝ }
+{
+    match t {
+        Term::Nothing => 0,
+        Term::Empty => 0,
+        Term::Range(_, hi) => hi,
+        Term::Cat(_, b) => b,
+        Term::Alt(_, b) => b,
+        Term::Star(_) => 0,
+    }
+}
+
+fn pack(kind: u64, first: usize, second: usize) -> u64
+    requires { ⌜ kind < kindSize ⌝ }
+    requires { ⌜ first < fieldSize ⌝ }
+    requires { ⌜ second < fieldSize ⌝ }
+    ensures { λ r. ⌜ r ≡ packed kind first second ⌝ }
+{
+    kind + KIND_SIZE * (first as u64) + KIND_SIZE * FIELD_SIZE * (second as u64)
+}
+
+// The cell of a node.
+fn cell_of(node: Term) -> u64
+    requires { ⌜ Fields node ⌝ }
+    ensures { λ r. ⌜ r ≡ cellOf node ⌝ }
+{
+    pack(kind_of(node) as u64, first_of(node), second_of(node))
+}
+
+// The node in cell `i`.
+pub fn node_at(cells: &[u64], i: usize) -> Term
+    requires { ⌜ i < length (now cells) ⌝ }
+    ensures { λ r. ⌜ r ≡ nodeOf (getD (now (cells .entry)) i 0) ⌝ }
+{
+    unpack(cells[i])
+}
+
+// Stores a node in cell `top`; the answer is the next top.
+pub fn push(cells: &mut [u64], top: usize, node: Term) -> usize
+    requires { ⌜ Sound (now cells) top ⌝ }
+    requires { ⌜ top < length (now cells) ⌝ }
+    requires { ⌜ Below node top ⌝ }
+    ensures { λ r. ⌜ Pushed (now (cells .entry)) top node (now (cells .exit)) r ⌝ }
+{
+    cells[top] = cell_of(node);
+    top + 1
+}
+
+// What a node is.
+pub fn is_nothing(t: Term) -> bool
+    ensures { λ r. ⌜ r ≡ nothingNode t ⌝ }
+{
+    match t {
+        Term::Nothing => true,
+        Term::Empty => false,
+        Term::Range(_, _) => false,
+        Term::Cat(_, _) => false,
+        Term::Alt(_, _) => false,
+        Term::Star(_) => false,
+    }
+}
+
+pub fn is_empty(t: Term) -> bool
+    ensures { λ r. ⌜ r ≡ emptyNode t ⌝ }
+{
+    match t {
+        Term::Nothing => false,
+        Term::Empty => true,
+        Term::Range(_, _) => false,
+        Term::Cat(_, _) => false,
+        Term::Alt(_, _) => false,
+        Term::Star(_) => false,
+    }
+}
+
+// The number of a budget that is left when the nodes of a term's tree are counted off it, 0 where there are more.
+pub fn count_down(cells: &[u64], i: usize, left: usize) -> usize
+    requires { ⌜ Sound (now cells) (i + 1) ⌝ }
+    ensures { λ r. ⌜ r ≡ left - size (term (now (cells .entry)) i) ⌝ }
+{
+    if left == 0 {
+        return 0;
+    }
+    let node = node_at(cells, i);
+    match node {
+        Term::Nothing => left - 1,
+        Term::Empty => left - 1,
+        Term::Range(_, _) => left - 1,
+        Term::Cat(a, b) => {
+            let rest = count_down(cells, a, left - 1);
+            count_down(cells, b, rest)
+        }
+        Term::Alt(a, b) => {
+            let rest = count_down(cells, a, left - 1);
+            count_down(cells, b, rest)
+        }
+        Term::Star(a) => count_down(cells, a, left - 1),
+    }
+}
+
+// Whether a term's tree has few enough nodes.
+pub fn is_short(cells: &[u64], i: usize) -> bool
+    requires { ⌜ Sound (now cells) (i + 1) ⌝ }
+    ensures { λ r. ⌜ r ≡ leb (size (term (now (cells .entry)) i)) treeNodes ⌝ }
+{
+    let left = count_down(cells, i, TREE_NODES + 1);
+    0 < left
+}
+
+// Whether a term matches the empty text.
+pub fn nullable(cells: &[u64], i: usize) -> bool
+    requires { ⌜ Sound (now cells) (i + 1) ⌝ }
+    ensures { λ r. ⌜ r ≡ matchesEmpty (term (now (cells .entry)) i) ⌝ }
+{
+    let node = node_at(cells, i);
+    match node {
+        Term::Nothing => false,
+        Term::Empty => true,
+        Term::Range(_, _) => false,
+        Term::Cat(a, b) => {
+            if nullable(cells, a) {
+                nullable(cells, b)
+            } else {
+                false
+            }
+        }
+        Term::Alt(a, b) => {
+            if nullable(cells, a) {
+                true
+            } else {
+                nullable(cells, b)
+            }
+        }
+        Term::Star(_) => true,
+    }
+}
+
+fn compare_numbers(m: usize, n: usize) -> Order
+    ensures { λ r. ⌜ ordering r ≡ compare m n ⌝ }
+{
+    if m < n {
+        return Order::Less;
+    }
+    if n < m {
+        return Order::Greater;
+    }
+    Order::Equal
+}
+
+// The first comparison decides, and where it finds no difference, the second.
+fn compare_pairs(a: usize, b: usize, c: usize, d: usize) -> Order
+    ensures { λ r. ⌜ ordering r ≡ also (compare a c) (compare b d) ⌝ }
+{
+    let first = compare_numbers(a, c);
+    match first {
+        Order::Less => Order::Less,
+        Order::Equal => compare_numbers(b, d),
+        Order::Greater => Order::Greater,
+    }
+}
+
+// The order of two terms. Terms of one number are one term; kinds decide first, then parts from left to right.
+pub fn compare_terms(cells: &[u64], i: usize, j: usize) -> Order
+    requires { ⌜ Sound (now cells) (i + 1) ⌝ }
+    requires { ⌜ Sound (now cells) (j + 1) ⌝ }
+    ensures { λ r. ⌜ ordering r ≡ order (term (now (cells .entry)) i) (term (now (cells .entry)) j) ⌝ }
+{
+    if i == j {
+        return Order::Equal;
+    }
+    let x = node_at(cells, i);
+    let y = node_at(cells, j);
+    let kind = kind_of(x);
+    let other = kind_of(y);
+    if kind < other {
+        return Order::Less;
+    }
+    if other < kind {
+        return Order::Greater;
+    }
+    if kind < RANGE {
+        return Order::Equal;
+    }
+    if kind == RANGE {
+        return compare_pairs(first_of(x), second_of(x), first_of(y), second_of(y));
+    }
+    let left = compare_terms(cells, first_of(x), first_of(y));
+    if kind == STAR {
+        return left;
+    }
+    match left {
+        Order::Less => Order::Less,
+        Order::Equal => compare_terms(cells, second_of(x), second_of(y)),
+        Order::Greater => Order::Greater,
+    }
+}
