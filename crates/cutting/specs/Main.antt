@@ -22,9 +22,10 @@ the-first-word t text f = (λ p. first-by-one t text (firstBy t text) f (first-b
 
 -- a text has exactly one cut, and it is the one that is worked out
 pub the-cut : (t : Table) (room at : ℕ) (text : Text) (x : Cut) → Cuts (FirstBy t) room at text x ↔ (cutBy (firstBy t) room at text ≡ x)
-the-cut t room at text x =
-    (λ c. cut-one (FirstBy t) (first-by-one t) (cut-is (FirstBy t) (firstBy t) (first-by t) room at text) c,
-    λ e. rw (← e) (cut-is (FirstBy t) (firstBy t) (first-by t) room at text))
+the-cut t room at text x = (
+  λ c. cut-one (FirstBy t) (first-by-one t) (cut-is (FirstBy t) (firstBy t) (first-by t) room at text) c,
+  λ e. rw (← e) (cut-is (FirstBy t) (firstBy t) (first-by t) room at text),
+)
 
 -- its words tile the text from where it starts to where it ends; none is empty; there are no more than records
 pub record Tiled (t : Table) (room at : ℕ) (text : Text) : Type 0 where
