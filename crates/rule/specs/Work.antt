@@ -1,5 +1,5 @@
 -- What the code that works off a rule's nodes asks and answers: the rule, the stack of cells, and how many cells the rest may use.
--- Every contract of this crate is one of these names.
+-- The contracts of this crate are stated with these; a leaf's is that of normal.
 use Prim.Native.Nat.{ℕ, zero, suc, _+_, _-_, _*_, _/_, _<_, _≤_}
 use mathlib.Core.Path.{_≡_}
 use mathlib.Core.Bool.{true}

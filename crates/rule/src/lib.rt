@@ -16,9 +16,6 @@ use number::limits::NODES;
 use number::limits::VERSION;
 use term::Term;
 
-// The cells that a rule's normal form may need above those that are held.
-pub const RULE_SCRATCH: usize = 34816;
-
 // A leaf as an answer.
 fn leaf_term(cells: &mut [u64], top: usize, node: Term) -> Made
     requires { ⌜ Sound (now cells) top ⌝ }
