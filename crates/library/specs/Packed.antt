@@ -1,0 +1,43 @@
+-- How an answer reaches C, one scheme for every call: the call returns a code and writes four numbers into cells that the caller lends.
+-- Code 0 says that the call gave its answer, and the cells hold its numbers; any other code is the paper's number of a refusal, and the first cell holds its place.
+use Prim.Native.Nat.{ℕ}
+use mathlib.Core.List.{List, [], _∷_}
+use Rattle.number.specs.Refused.{Outcome, number, place}
+use Rattle.number.specs.Refused.Outcome.{gives, refuses}
+use Rattle.book.specs.Calls.{Size}
+use Rattle.cutting.specs.Cut.{Ending}
+use Rattle.cutting.specs.Cut.Ending.{Done, StuckAt, FullAt}
+use Rattle.cutting.specs.Calls.{Report}
+
+-- what the call returns, and the four cells as it leaves them
+pub record Packed : Type 0 where
+  pub code : ℕ
+  pub cells : List ℕ
+
+abbrev pub left : ℕ → List ℕ → Packed
+left code cells = record { code = code; cells = cells }
+
+abbrev pub four : ℕ → ℕ → ℕ → ℕ → List ℕ
+four a b c d = a ∷ b ∷ c ∷ d ∷ []
+
+-- an answer whose numbers `told` lists, or a refusal
+abbrev pub packed : {A : Type 0} → (A → List ℕ) → Outcome A → Packed
+packed told (gives x) = left 0 (told x)
+packed told (refuses r) = left (number r) (four (place r) 0 0 0)
+
+-- a count alone: the states of a table, the bytes of a sheet
+abbrev pub toldCount : ℕ → List ℕ
+toldCount n = four n 0 0 0
+
+-- a book's rules, then its nodes
+abbrev pub toldSize : Size → List ℕ
+toldSize s = four (s .rules) (s .nodes) 0 0
+
+-- how a cut ended (0 Done, 1 Stuck, 2 Full), its words, and the place, which is 0 for Done
+abbrev pub toldEnding : Ending → ℕ → List ℕ
+toldEnding Done n = four 0 n 0 0
+toldEnding (StuckAt at) n = four 1 n at 0
+toldEnding (FullAt at) n = four 2 n at 0
+
+abbrev pub toldReport : Report → List ℕ
+toldReport r = toldEnding (r .ending) (r .count)

@@ -1,0 +1,23 @@
+-- `lines::put_byte` meets its contract: one store is a run of one byte.
+-- Assumes nothing.
+use mathlib.Core.Path.{refl}
+use native.Mathlib.Omega.{arith}
+use borrow.Author.Needs.{needs}
+use Rattle.number.specs.Lists.{stored-one}
+use Rattle.lines.proofs.put_byte.Statement.{statement}
+use Rattle.lines.proofs.put_byte.Tie as tie
+
+slice-write-out : tie.Need-slice-write-out
+slice-write-out c = search needs
+
+add-result : tie.Need-add-result
+add-result c = search needs
+
+same-length : tie.Need-same-length
+same-length c = search needs
+
+returns : tie.Need-returns
+returns c = record { place = refl; out = stored-one _ _ _ (omega arith) }
+
+pub put-byte-spec : {M : Type 1} → statement M
+put-byte-spec = tie.close (tie.spec slice-write-out add-result same-length returns)

@@ -1,0 +1,153 @@
+// Sheets: refused exactly where the paper says, or read, and written back byte for byte.
+// The table area is of full size here; other sizes are the next module's.
+use crate::say;
+use number::limits::STATES;
+use number::limits::TABLE_CELLS;
+use table::Counted;
+use table::Written;
+
+// More than any sheet takes.
+const SHEET_MOST: usize = 66048;
+
+// Sheets of many states are made of one state over and over: what that takes, and what stands in front.
+const STATE_BYTES: usize = 5;
+
+const HEAD_BYTES: usize = 3;
+
+fn tried(name: &[u8], sheet: &[u8]) {
+    let mut labels = [0u8; STATES];
+    let mut targets = [0u8; TABLE_CELLS];
+    say::label(b"sheet ", name);
+    match table::load(sheet, &mut labels, &mut targets) {
+        Counted::States(s) => say::counted(s, b" states\n"),
+        Counted::Refused(r) => say::refused(r),
+    }
+}
+
+fn compared(sheet: &[u8], out: &[u8], end: usize) {
+    if out.len() < end {
+        return;
+    }
+    if check::same(sheet, &out[0..end]) {
+        say::text(b"the same\n");
+    } else {
+        say::text(b"others\n");
+    }
+}
+
+// Read, and then written from the table that was read.
+fn tried_back(name: &[u8], sheet: &[u8]) {
+    let mut labels = [0u8; STATES];
+    let mut targets = [0u8; TABLE_CELLS];
+    let mut out = [0u8; SHEET_MOST];
+    say::label(b"sheet and back ", name);
+    let loaded = table::load(sheet, &mut labels, &mut targets);
+    let Counted::States(s) = loaded else {
+        say::text(b"refused\n");
+        return;
+    };
+    match table::write_sheet(s, &labels, &targets, &mut out) {
+        Written::Bytes(end) => {
+            say::counted(s, b" states ");
+            say::counted(end, b" bytes ");
+            compared(sheet, &out, end);
+        }
+        Written::Unwritten(r) => say::refused(r),
+    }
+}
+
+// Version, state count, label, run count, length, target.
+pub fn heads() {
+    tried(b"no bytes", b"");
+    tried(b"version 0", b"\x00\x01\x00\x01\x80\x02\x00");
+    tried(b"version 2", b"\x02\x01\x00\x01\x80\x02\x00");
+    tried(b"0 states", b"\x01\x00");
+    tried(b"129 states said", b"\x01\x81\x01\x00\x01\x80\x02\x00");
+    tried(b"label 32", b"\x01\x01\x20\x01\x80\x02\x00");
+    tried(b"label 33", b"\x01\x01\x21\x01\x80\x02\x00");
+    tried(b"0 runs", b"\x01\x01\x00\x00");
+    tried(b"257 runs", b"\x01\x01\x00\x81\x02\x80\x02\x00");
+    tried(b"length 0", b"\x01\x01\x00\x01\x00\x00");
+    tried(b"length 257", b"\x01\x01\x00\x01\x81\x02\x00");
+    tried(b"target 1 of 1 state", b"\x01\x01\x00\x01\x80\x02\x01");
+}
+
+// Runs that do not cover the bytes once, and bytes that lack or are left.
+pub fn runs() {
+    tried(b"length in a long form", b"\x01\x01\x00\x01\x81\x00\x00");
+    tried(b"target missing", b"\x01\x01\x00\x01\x80\x02");
+    tried(b"sum passes 256", b"\x01\x02\x00\x02\x80\x02\x00\x01\x01");
+    tried(
+        b"sum passes 256, target missing",
+        b"\x01\x02\x00\x02\x80\x02\x00\x01",
+    );
+    tried(
+        b"length 257 after 256",
+        b"\x01\x02\x00\x02\x80\x02\x00\x81\x02",
+    );
+    tried(b"equal neighbours", b"\x01\x02\x00\x02\x01\x00\x01\x00");
+    tried(
+        b"target 2 of 2 states after 0",
+        b"\x01\x02\x00\x02\x01\x00\x01\x02",
+    );
+    tried(b"low sum", b"\x01\x01\x00\x01\x01\x00");
+    tried(b"low sum, then a tail", b"\x01\x01\x00\x01\x01\x00\x55");
+    tried(b"low sum, next state missing", b"\x01\x02\x00\x01\x01\x00");
+    tried(b"next state missing", b"\x01\x02\x00\x01\x80\x02\x00");
+    tried(b"tail", b"\x01\x01\x00\x01\x80\x02\x00\x55");
+}
+
+// A state with one run to state 0.
+fn put_state(sheet: &mut [u8], at: usize) {
+    if sheet.len() <= at {
+        return;
+    }
+    if sheet.len() - at < STATE_BYTES {
+        return;
+    }
+    sheet[at] = 0;
+    sheet[at + 1] = 1;
+    sheet[at + 2] = 0x80;
+    sheet[at + 3] = 2;
+    sheet[at + 4] = 0;
+}
+
+// A sheet of as many such states as it has room for.
+fn put_states(sheet: &mut [u8]) {
+    let mut k: usize = 0;
+    while k <= STATES {
+        put_state(sheet, HEAD_BYTES + STATE_BYTES * k);
+        k += 1;
+    }
+}
+
+// The most states, and one more.
+pub fn sizes() {
+    let mut most = [0u8; 643];
+    put_states(&mut most);
+    most[0] = 1;
+    most[1] = 0x80;
+    most[2] = 1;
+    tried(b"128 states", &most);
+    tried_back(b"128 states", &most);
+    let mut over = [0u8; 648];
+    put_states(&mut over);
+    over[0] = 1;
+    over[1] = 0x81;
+    over[2] = 1;
+    tried(b"129 states", &over);
+}
+
+// Read and written back.
+pub fn back() {
+    tried_back(b"1 state", b"\x01\x01\x00\x01\x80\x02\x00");
+    tried_back(b"label 32", b"\x01\x01\x20\x01\x80\x02\x00");
+    tried_back(
+        b"2 states, 3 runs",
+        b"\x01\x02\x00\x03\x30\x00\x01\x01\xcf\x01\x00\x01\x01\x80\x02\x01",
+    );
+    tried_back(
+        b"an unreachable state",
+        b"\x01\x03\x00\x01\x80\x02\x01\x01\x01\x80\x02\x01\x02\x01\x80\x02\x02",
+    );
+}

@@ -1,0 +1,90 @@
+/* The word cutter for C, on Linux for x86-64: the functions of target/staticlib/liblibrary.a, which `rt staticlib library` proves and
+   writes. Their contracts, for every input, are those of crates/library/src/lib.rt; this page says the same in words.
+
+   ONE SCHEME FOR EVERY CALL. A call returns a code and writes all four numbers of `answer`.
+     code 0         the call gave its answer; `answer` holds its numbers as said at the call, and 0 where nothing is said.
+     code 1 to 13   the call refused: the code is the refusal's number in the table of numbered refusals (LUBI_SHORT and so on),
+                    answer[0] is its place, and the rest is 0.
+
+   WHAT THE CALLER MUST TEST: nothing. No call asks that a count, a place, a text or a table makes sense: each tests what it is given
+   and refuses what it cannot use. What is left to C is what C alone can know:
+     - a pointer with a length points to that many elements (it is not NULL, also where the length is 0), and `answer` to four;
+     - an area that a call writes overlaps no other area of that call;
+     - nothing else writes these areas while the call runs. The library keeps nothing between calls, so several threads may call it.
+
+   AREAS. `labels` has one cell a state and `targets` 256, and they are a table together with a count of states. Where a call fills a
+   table, labels has at least LUBI_STATES cells and targets LUBI_TARGETS; where a call reads one, as many as its count asks for.
+   A work area has at least LUBI_WORK cells of 64 bits, and a text area at least LUBI_TEXT bytes. No length is too long. */
+#ifndef LUBIRANGUK_H
+#define LUBIRANGUK_H
+
+#include <stddef.h>
+#include <stdint.h>
+
+#ifdef __cplusplus
+extern "C" {
+#endif
+
+enum {
+    LUBI_ANSWER = 4,      /* numbers of an answer */
+    LUBI_RECORD = 3,      /* cells of a word: start, length, rule */
+    LUBI_RULES = 32,      /* rules of a book */
+    LUBI_STATES = 128,    /* states of a table, and cells of its labels */
+    LUBI_TARGETS = 32768, /* cells of its targets */
+    LUBI_WORK = 52992,    /* cells of a work area */
+    LUBI_TEXT = 256       /* bytes of a text area */
+};
+
+/* codes */
+enum {
+    LUBI_GIVEN = 0,
+    LUBI_SHORT = 1,
+    LUBI_NUMBER = 2,
+    LUBI_RANGE = 3,
+    LUBI_STACK = 4,
+    LUBI_TAIL = 5,
+    LUBI_LONG = 6,
+    LUBI_POOL = 7,
+    LUBI_TOO_MANY_STATES = 8,
+    LUBI_RUNS = 9,
+    LUBI_LOADED = 10,
+    LUBI_ROOM = 11,
+    LUBI_PAIRS = 12,
+    LUBI_INPUT = 13 /* programs only: no call here gives it */
+};
+
+/* how a cut ended */
+enum { LUBI_DONE = 0, LUBI_STUCK = 1, LUBI_FULL = 2 };
+
+/* Checks a rule book.
+   answer: the number of rules, the number of nodes of all rules together.
+   Refuses what is wrong in the book, at the byte where it is wrong: 1 to 5. */
+size_t lubi_check_book(const uint8_t *book, size_t book_length, size_t answer[LUBI_ANSWER]);
+
+/* Reads a sheet into a table.
+   answer: the number of states. Cells of labels and targets past those states are 0, to the end of the lent areas.
+   Refuses LUBI_ROOM first, where an area is below full size, and then changes neither; else what is wrong in the sheet, at the byte
+   where it is wrong (1, 2, 3, 5, 9), and then leaves both areas all 0. */
+size_t lubi_load(const uint8_t *sheet, size_t sheet_length, uint8_t *labels, size_t labels_length, uint8_t *targets, size_t targets_length,
+    size_t answer[LUBI_ANSWER]);
+
+/* Writes a table as its sheet to the front of `out`; the bytes of `out` past the sheet stay as they were.
+   answer: the number of bytes of the sheet.
+   Refuses LUBI_LOADED, where the table is not well formed, then LUBI_ROOM, where `out` is shorter than the sheet; `out` is unchanged. */
+size_t lubi_write_sheet(size_t count, const uint8_t *labels, size_t labels_length, const uint8_t *targets, size_t targets_length,
+    uint8_t *out, size_t out_length, size_t answer[LUBI_ANSWER]);
+
+/* Cuts a text into words by a table, from the byte number `at` on; `at` may lie past the end, where no text is left.
+   `records` has room for records_length / LUBI_RECORD words. Each is three cells: its start, counted from the start of the text, its
+   length and its rule, rules counting from 0. Cells past the words stay as they were.
+   answer: LUBI_DONE, LUBI_STUCK or LUBI_FULL; the number of words; and the place where no word starts (Stuck) or where the next word
+   starts and no record is free (Full). After Full, cut on from that place.
+   Refuses LUBI_LOADED, where the table is not well formed; the records are unchanged. */
+size_t lubi_cut_from(size_t count, const uint8_t *labels, size_t labels_length, const uint8_t *targets, size_t targets_length,
+    const uint8_t *text, size_t text_length, size_t at, size_t *records, size_t records_length, size_t answer[LUBI_ANSWER]);
+
+#ifdef __cplusplus
+}
+#endif
+
+#endif
