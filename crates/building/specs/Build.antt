@@ -1,0 +1,30 @@
+-- The build: a walk over vectors beside a sheet of one state, at most 128 of them; each vector found is a state of the table.
+-- A state's label is 1 plus the first rule whose term matches the empty text, or 0.
+use Prim.Native.Nat.{ℕ}
+use mathlib.Core.List.{List, map}
+use lib.ListN.{length}
+use Rattle.number.specs.declared.Refusal.{Refusal}
+use Rattle.number.specs.declared.Refusal.the-variants.{States}
+use Rattle.number.specs.Limits.{states}
+use Rattle.number.specs.Refused.{Outcome}
+use Rattle.number.specs.Refused.Outcome.{gives, refuses}
+use Rattle.meaning.specs.Re.{Re}
+use Rattle.meaning.specs.Rules.{label}
+use Rattle.table.specs.Table.{Table}
+use Rattle.walk.specs.Walk.{Item, Held, Way, Walked, walkFrom}
+use Rattle.walk.specs.Walk.Walked.{halted, walked}
+
+-- beside one state that leads to itself
+abbrev pub alone : Way
+alone = record { go = λ q c. 0; limit = states; full = States }
+
+abbrev pub tableOf : Held → List ℕ → Table
+tableOf h targets = record { count = length (h .items); labels = map (λ x. label (x .vector)) (h .items); targets = targets }
+
+abbrev pub builtOf : Walked → Outcome Table
+builtOf (halted r) = refuses r
+builtOf (walked h targets) = gives (tableOf h targets)
+
+-- the table of a row of rules, or the refusal that its walk comes to
+unfoldable pub buildRules : List Re → Outcome Table
+buildRules rs = builtOf (walkFrom alone rs)

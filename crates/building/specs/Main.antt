@@ -1,0 +1,121 @@
+-- The theorems of building that are bought, together; each is proved in the file that its proof names.
+-- To believe them, read the definitions: Build and Calls here, Walk, Vectors and Parts in walk, and those that they stand on.
+use Prim.Native.Nat.{ℕ, _*_, _-_, _≤_}
+use mathlib.Core.Path.{_≡_, refl, sym, ap, subst, _∙_}
+use mathlib.Core.Bool.{Bool, true, false, cond, _||_}
+use mathlib.Core.List.{List, map, _++_}
+use native.Mathlib.Omega.{arith}
+use lib.Dec.{ltb}
+use lib.ListN.{length, take, replicate, length-map}
+use lib.Seq.{take-at}
+use Rattle.number.specs.declared.Refusal.{Refusal}
+use Rattle.number.specs.declared.Refusal.the-variants.{Room}
+use Rattle.number.specs.Limits.{rules, bytes}
+use Rattle.number.specs.Numbers.{Bytes}
+use Rattle.number.specs.Refused.{Answer, Outcome}
+use Rattle.number.specs.Refused.Answer.{got, refused}
+use Rattle.number.specs.Refused.Outcome.{gives, refuses}
+use Rattle.meaning.specs.Re.{Re, Text}
+use Rattle.meaning.specs.Rules.{Names}
+use Rattle.meaning.specs.Words.{FirstWord}
+use Rattle.book.specs.Book.{Book}
+use Rattle.book.specs.Reads.{readBook}
+use Rattle.book.specs.Expression.{expression, meant}
+use Rattle.book.specs.ReadLaws.{book-valid}
+use Rattle.table.specs.Table.{Table, lent, wellFormed}
+use Rattle.table.specs.Calls.{Filled, padded, cramped, filledWith, cleared}
+use Rattle.table.specs.Formed.{Formed}
+use Rattle.table.specs.SheetFormed.{formed-well}
+use Rattle.table.specs.Sheet.{readSheet, writeSheet}
+use Rattle.table.specs.SheetLaws.{sheet-read-back}
+use Rattle.cutting.specs.Steps.{labelOf, firstBy}
+use Rattle.cutting.specs.Cut.{Cut, Cuts, cutBy}
+use Rattle.vector.specs.Layout.{workLength}
+use Rattle.building.specs.Build.{buildRules}
+use Rattle.building.specs.Calls.{buildRead, buildBook, filledBy, Building, buildOf}
+use Rattle.building.specs.BuildLaws.{build-names, build-cuts}
+use Rattle.building.specs.BuiltFormed.{built-formed}
+use Rattle.building.specs.Sample.{w-labels}
+
+-- a table that was built from a book: what is true of it
+pub record Right (b : Book) (t : Table) : Type 0 where
+  -- after every text of bytes its label is the one that names the text by the book's rules
+  pub names : (w : Text) → Bytes w → Names (meant b) w (labelOf t w)
+  -- cutting by it is cutting by the textbook: longest words, earliest rules, stuck exactly where no non-empty prefix matches
+  pub cuts : (room at : ℕ) (text : Text) → Bytes text → Cuts (FirstWord (meant b)) room at text (cutBy (firstBy t) room at text)
+  -- it is well formed, and its sheet reads back to it
+  pub formed : Formed t
+  pub sheet : readSheet (writeSheet t) ≡ got t (length (writeSheet t))
+
+-- a book that is read has at most as many rules as a label can name
+few-rules : (file : List ℕ) (b : Book) (after : ℕ) → readBook file ≡ got b after → length (meant b) ≤ rules
+few-rules file b after e = omega (arith, length-map (b .rules) expression, book-valid file b after e .0 .few)
+
+-- the theorem, of the definitions
+pub the-build : (file : List ℕ) (b : Book) (after : ℕ) (t : Table) → readBook file ≡ got b after → buildBook file ≡ gives t → Right b t
+the-build file b after t e d =
+    let m : buildRules (meant b) ≡ gives t = sym (ap buildRead e) ∙ d in
+    let f = built-formed (meant b) t (few-rules file b after e) m in
+    record {
+      names = build-names (meant b) t m;
+      cuts = build-cuts (meant b) t m;
+      formed = f;
+      sheet = sheet-read-back t f;
+    }
+
+-- the table that stands in an area, with the rest of the area 0
+lent-filled : (t : Table) (n m : ℕ) → Formed t → lent (t .count) (padded n (t .labels)) (padded m (t .targets)) ≡ t
+lent-filled t n m f =
+    let p = take-at (t .labels) (replicate (n - length (t .labels)) 0) (t .count) (f .labelled) in
+    let q = take-at (t .targets) (replicate (m - length (t .targets)) 0) (t .count * bytes) (f .filled) in
+    λ i. record { count = t .count; labels = p i; targets = q i }
+
+-- what a call that succeeds has left in memory
+pub record Left (file : List ℕ) (s : ℕ) (labels targets : List ℕ) : Type 0 where
+  pub book : Book
+  pub after : ℕ
+  pub read : readBook file ≡ got book after
+  pub well-formed : wellFormed s labels targets ≡ true
+  pub right : Right book (lent s labels targets)
+
+gives-count : {n m : ℕ} → _≡_ {A = Outcome ℕ} (gives n) (gives m) → n ≡ m
+gives-count e = cc
+
+no-count : {r : Refusal} {n : ℕ} → _≡_ {A = Outcome ℕ} (refuses r) (gives n) → ⊥
+no-count e = let z : _≡_ {A = ℕ} 0 1 = cc in omega arith
+
+module _ (file labels targets : List ℕ) where
+  left-filled : (s : ℕ) (o : Outcome Table) → buildBook file ≡ o → filledBy labels targets o .answer ≡ gives s
+      → Left file s (filledBy labels targets o .labels) (filledBy labels targets o .targets)
+  left-filled s (refuses r) d e = absurd (no-count e)
+  left-filled s (gives t) d e = go (readBook file) refl d
+    where
+      go : (x : Answer Book) → readBook file ≡ x → buildRead x ≡ gives t
+          → Left file s (filledWith labels targets t .labels) (filledWith labels targets t .targets)
+      go (refused r) p q = absurd (let z : _≡_ {A = ℕ} 0 1 = cc in omega arith)
+      go (got b after) p q =
+          let m = the-build file b after t p (ap buildRead p ∙ q) in
+          let l = lent-filled t (length labels) (length targets) (m .formed) in
+          let n : t .count ≡ s = gives-count e in
+          let u : lent s (padded (length labels) (t .labels)) (padded (length targets) (t .targets)) ≡ t =
+          ap (λ (k : ℕ). lent k (padded (length labels) (t .labels)) (padded (length targets) (t .targets))) (sym n) ∙ l in
+          record {
+            book = b;
+            after = after;
+            read = p;
+            well-formed = formed-well s _ _ (subst Formed (sym u) (m .formed));
+            right = subst (Right b) (sym u) m;
+          }
+
+  -- the theorem, of what the call leaves: the table in memory is right for the book
+  pub the-call : (work : List ℕ) (s : ℕ) → buildOf file labels targets work .table .answer ≡ gives s
+      → Left file s (buildOf file labels targets work .table .labels) (buildOf file labels targets work .table .targets)
+  the-call work s e = go (cramped labels targets || ltb (length work) workLength) e
+    where
+      ofTest : Bool → Building
+      ofTest b = cond b (record { table = record { answer = refuses Room; labels = labels; targets = targets }; work = work })
+          (record { table = filledBy labels targets (buildBook file); work = replicate (length work) 0 })
+
+      go : (b : Bool) → ofTest b .table .answer ≡ gives s → Left file s (ofTest b .table .labels) (ofTest b .table .targets)
+      go true d = absurd (no-count d)
+      go false d = left-filled s (buildBook file) refl d

@@ -1,0 +1,105 @@
+-- `comparing::first_differing` meets its contract. The loop's invariant: the items passed agree, so that the answer is that of the others.
+-- The measure is how many are left. Assumes nothing.
+use Prim.Native.Nat.{ℕ, _+_, _-_, _≤_}
+use native.Mathlib.Omega.{arith}
+use mathlib.Core.Path.{_≡_, refl, ap, _∙_}
+use mathlib.Core.List.{List}
+use borrow.Author.Needs.{needs}
+use lib.ListN.{getD}
+use Rattle.meaning.specs.Rules.{label}
+use Rattle.vector.specs.Layout.{sheetsAt}
+use Rattle.vector.specs.Vectors.{vectorOf}
+use Rattle.vector.specs.Memory.{numbersAt}
+use Rattle.comparing.specs.ShowLaws.{Left, left-first, left-next, left-found, left-none}
+use Rattle.comparing.proofs.first_differing.Statement.{statement}
+use Rattle.comparing.proofs.first_differing.Tie as tie
+
+abbrev Inv-loop : tie.InvT-loop
+Inv-loop cells n count labels k₀ k = (k ≤ count) × Left cells n count labels k
+
+abbrev μ-loop : tie.MeasureT-loop
+μ-loop cells n count labels k₀ k = count - k
+
+-- the book's label of item k
+by-book : (c : tie.After-label-of Inv-loop μ-loop)
+    → (let a = c .before .before .before .before .before .before .args in
+    c .label-of .result ≡ label (vectorOf (a .cells .now) (a .n) (numbersAt (a .cells .now) (c .before .before .before .loop .k))))
+by-book c =
+    let a = c .before .before .before .before .before .before .args in
+    c .label-of .ensures ∙ ap (λ (v : List ℕ). label (vectorOf (a .cells .now) (a .n) v)) (c .before .load .ensures)
+
+loop-holds : tie.Need-loop-holds Inv-loop μ-loop
+loop-holds c =
+    let a = c .before .before .args in
+    (search needs, left-first (a .cells .now) (a .n) (a .count) (a .labels .now))
+
+load-requires : tie.Need-load-requires Inv-loop μ-loop
+load-requires c κs =
+    let p = c .before .before .before .before .pre in
+    record { long = p .long; few = omega (arith, p .few) }
+
+label-of-requires : tie.Need-label-of-requires Inv-loop μ-loop
+label-of-requires c κs = rw (c .load .ensures) (c .before .before .before .before .before .pre .reads (c .before .before .loop .k) (omega arith))
+
+add-state : tie.Need-add-state Inv-loop μ-loop
+add-state c = omega (arith, c .before .before .before .before .before .before .pre .few)
+
+mul-state : tie.Need-mul-state Inv-loop μ-loop
+mul-state c = omega (arith, c .before .before .before .before .before .before .pre .few)
+
+shared-slice-read-state : tie.Need-shared-slice-read-state Inv-loop μ-loop
+shared-slice-read-state c = let p = c .before .before .before .before .before .before .before .pre in omega (arith, p .few, p .long)
+
+shared-slice-read-by-table : tie.Need-shared-slice-read-by-table Inv-loop μ-loop
+shared-slice-read-by-table c =
+    let p = c .before .before .before .before .before .before .before .before .pre in
+    p .sheets (c .before .before .before .before .before .loop .k) (omega arith)
+
+cast-by-table : tie.Need-cast-by-table Inv-loop μ-loop
+cast-by-table c =
+    let k = c .before .before .before .before .before .loop .k in
+    omega (arith, c .shared-slice-known4 .given (getD (c .before .before .before .before .before .before .before .before .args .cells .now) (sheetsAt + k) 0))
+
+returns : tie.Need-returns Inv-loop μ-loop
+returns c =
+    let a = c .before .before .before .before .before .before .before .before .before .args in
+    let l = c .before .before .before .before .before .before .loop in
+    left-found (a .cells .now) (a .n) (a .count) (a .labels .now) (l .k) (omega arith) (l .inv .1) _ (by-book (c .before .before .before)) _ refl (c .if1 .taken)
+
+add-k : tie.Need-add-k Inv-loop μ-loop
+add-k c = search needs
+
+loop-less : tie.Need-loop-less Inv-loop μ-loop
+loop-less c = search needs
+
+loop-again : tie.Need-loop-again Inv-loop μ-loop
+loop-again c =
+    let a = c .before .before .before .before .before .before .before .before .before .args in
+    let l = c .before .before .before .before .before .before .loop in
+    (search needs, left-next (a .cells .now) (a .n) (a .count) (a .labels .now) (l .k) (omega arith) (l .inv .1) _ (by-book (c .before .before .before)) _ refl (c .if1 .left))
+
+returns-2 : tie.Need-returns-2 Inv-loop μ-loop
+returns-2 c =
+    let a = c .before .before .before .before .args in
+    let l = c .before .loop in
+    left-none (a .cells .now) (a .n) (a .count) (a .labels .now) (l .k) (omega arith) (l .inv .1)
+
+pub first-differing-spec : {M : Type 1} → statement M
+first-differing-spec =
+    tie.close
+    (tie.spec
+    Inv-loop
+    μ-loop
+    loop-holds
+    load-requires
+    label-of-requires
+    add-state
+    mul-state
+    shared-slice-read-state
+    shared-slice-read-by-table
+    cast-by-table
+    returns
+    add-k
+    loop-less
+    loop-again
+    returns-2)
