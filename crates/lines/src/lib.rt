@@ -162,6 +162,7 @@ pub fn put_differs(len: usize, book: usize, sheet: usize, out: &mut [u8], at: us
 pub fn put_hex_line(text: &[u8], from: usize, out: &mut [u8], at: usize) -> usize
     requires { ⌜ at + (2 * (length (now text) - from) + 1) ≤ length (now out) ⌝ }
     ensures { λ next. ⌜ Writes (hexLine (drop from (now (text .entry)))) (now (out .entry)) (now (out .exit)) at next ⌝ }
+    ensures { λ next. ⌜ next ≤ at + (2 * (length (now (text .entry)) - from) + 1) ⌝ }
 {
     if text.len() <= from {
         return put_byte(NEWLINE, out, at);

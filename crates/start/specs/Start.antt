@@ -2,7 +2,7 @@
 -- Begun says how far it has come after the first rules, First where all are in the pool.
 use Prim.Native.Nat.{ℕ, _*_, _≤_}
 use mathlib.Core.Path.{_≡_}
-use mathlib.Core.Bool.{Bool, true, false}
+use mathlib.Core.Bool.{true, false}
 use mathlib.Core.List.{List, [], _++_}
 use lib.ListN.{length, getD, drop}
 use Rattle.number.specs.Limits.{treeNodes, workCells}

@@ -1,14 +1,14 @@
 -- Laws for vector 0, rule by rule: a rule that is too long makes the vector so, and any other is one place more of it.
 -- What remains, put behind what was done, is the whole vector; at the end nothing remains.
-use Prim.Native.Nat.{ℕ, zero, suc, _+_, _*_, _<_, _≤_}
+use Prim.Native.Nat.{ℕ, suc, _+_, _*_, _<_, _≤_}
 use native.Mathlib.Numerals.{add-one}
 use native.Mathlib.Omega.{arith}
 use mathlib.Core.Path.{_≡_, refl, sym, ap, _∙_}
 use mathlib.Core.Logic.{inl, inr}
 use mathlib.Core.Bool.{Bool, true, false, cond}
-use mathlib.Core.List.{List, [], _∷_, _++_, map, append-assoc, append-nil}
+use mathlib.Core.List.{List, [], _∷_, _++_, append-assoc, append-nil, map-append}
 use borrow.Author.Tests.{le-leb}
-use lib.ListN.{length, getD, take, drop, set, replicate, length-set, length-map, length-replicate, getD-replicate, drop-of-length-le, List·getD-map}
+use lib.ListN.{length, take, drop, set, replicate, length-set, length-map, length-replicate, getD-replicate, drop-of-length-le, List·getD-map}
 use lib.Seq.{drop-cons, take-suc-set, getD-set-same, getD-set-other}
 use Rattle.number.specs.Limits.{rules, treeNodes}
 use Rattle.meaning.specs.Re.{Re, size}
@@ -25,7 +25,7 @@ use Rattle.book.specs.Places.{noRule}
 use Rattle.book.specs.ReadLaws.{book-valid}
 use Rattle.term.specs.Cells.{term, Sound}
 use Rattle.term.specs.Area.{Grown, Room}
-use Rattle.term.specs.CellLaws.{Same, frame, sound-less}
+use Rattle.term.specs.CellLaws.{Same, sound-less}
 use Rattle.normal.specs.declared.Made.{Made}
 use Rattle.normal.specs.declared.Made.the-variants.{Long as Made·long}
 use Rattle.normal.specs.AnswerLaws.{Got, long-is}
@@ -37,9 +37,9 @@ use Rattle.walk.specs.Vectors.Vector.{TooLong, Terms}
 use Rattle.walk.specs.Parts.{withParts, withVector}
 use Rattle.walk.specs.PartsLaws.{Part, Held, parts-hold}
 use Rattle.walk.specs.PartsLaws.Part.{whole, cat-left, cat-right, alt-left, alt-right, star-in}
-use Rattle.vector.specs.Layout.{nothingCell, workLength}
-use Rattle.vector.specs.Vectors.{vectorOf, Numbers}
-use Rattle.vector.specs.Memory.{Shaped, Kept}
+use Rattle.vector.specs.Layout.{nothingCell}
+use Rattle.vector.specs.Vectors.{vectorOf}
+use Rattle.vector.specs.Memory.{Shaped}
 use Rattle.vector.specs.PlaceLaws.{all-more}
 use Rattle.vector.specs.MemoryLaws.{vector-same-cells}
 use Rattle.start.specs.Start.{rulesIn, Opened, fronts, Begun, First}
@@ -51,12 +51,8 @@ unfolding withVector
 with-snoc p [] x = refl
 with-snoc p (r ∷ xs) x = with-snoc (withParts p r) xs x
 
-map-snoc : (f : ℕ → Re) (xs : List ℕ) (x : ℕ) → map f (xs ++ (x ∷ [])) ≡ map f xs ++ (f x ∷ [])
-map-snoc f [] x = refl
-map-snoc f (y ∷ xs) x = ap (λ (l : List Re). f y ∷ l) (map-snoc f xs x)
-
 vector-set : (s : List ℕ) (i : ℕ) (w : List ℕ) (a : ℕ) → i < length w → vectorOf s (i + 1) (set w i a) ≡ vectorOf s i w ++ (term s a ∷ [])
-vector-set s i w a h = rw (add-one, take-suc-set w i a h) (map-snoc (term s) (take i w) a)
+vector-set s i w a h = rw (add-one, take-suc-set w i a h) (map-append (term s) (take i w) (a ∷ []))
 
 part-shape : {x r : Re} → Part x r → InShape r → InShape x
 part-shape (whole e) s = rw e s

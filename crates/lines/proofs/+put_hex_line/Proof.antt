@@ -41,7 +41,8 @@ module _ (t : ℕ) where
   returns : put-hex-line-lts.Need-returns (K t) (put-hex-line-at t) put-hex-line.Post
   returns c =
       let a = c .before .before .before .before .before .before .before .args in
-      hex-none (a .text .now) (a .from) (c .before .before .before .before .if1 .taken) (c .before .before .put-byte .ensures)
+      let end = c .before .before .put-byte in
+      (hex-none (a .text .now) (a .from) (c .before .before .before .before .if1 .taken) (end .ensures), omega (arith, end .ensures .place))
 
   shared-slice-read-put-hex : put-hex-line-lts.Need-shared-slice-read-put-hex (K t) (put-hex-line-at t) put-hex-line.Post
   shared-slice-read-put-hex c = omega arith
@@ -60,8 +61,12 @@ module _ (t : ℕ) where
   returns-2 : put-hex-line-lts.Need-returns-2 (K t) (put-hex-line-at t) put-hex-line.Post
   returns-2 c =
       let start = c .before .before .before .before .before .before .before .before .before .before .before .before in
-      hex-more (start .args .text .now) (start .args .from) (c .before .before .before .before .before .before .before .before .before .if1 .left) (omega (arith, start .pre .1))
-      (c .before .before .before .before .before .before .put-hex .ensures) (c .before .before .put-hex-line .ensures)
+      let byte = c .before .before .before .before .before .before .put-hex in
+      let others = c .before .before .put-hex-line in (
+        hex-more (start .args .text .now) (start .args .from) (c .before .before .before .before .before .before .before .before .before .if1 .left) (omega (arith, start .pre .1))
+            (byte .ensures) (others .ensures .0),
+        omega (arith, c .before .before .before .before .before .before .before .before .before .if1 .left, byte .ensures .place, others .ensures .1),
+      )
 
 pub +put-hex-line-spec : {M : Type 1} → statement M
 +put-hex-line-spec = close μ-put-hex-line λ t. put-hex-line-lts.spec (K t) (put-hex-line-at t) put-hex-line.Post

@@ -1,0 +1,107 @@
+-- What the program cut prints: a line for each word, with the kind of its rule, and a last line; or a refusal, alone.
+-- A long text is cut in turns, each into the same records: a turn prints its words, and the text goes on from where the records were full.
+use Prim.Native.Nat.{ℕ, zero, suc, _+_, _<_, _≤_}
+use mathlib.Core.Path.{_≡_}
+use mathlib.Core.Bool.{cond}
+use mathlib.Core.List.{List, [], _∷_, _++_}
+use lib.ListN.{length, getD, drop}
+use Rattle.number.specs.declared.Refusal.the-variants.{Loaded}
+use Rattle.number.specs.Refused.{Outcome}
+use Rattle.number.specs.Refused.Outcome.{gives, refuses}
+use Rattle.meaning.specs.Re.{Text}
+use Rattle.book.specs.Calls.{Told, kindOf}
+use Rattle.book.specs.Calls.Told.{kind, none}
+use Rattle.table.specs.Table.{lent, wellFormed}
+use Rattle.table.specs.Promises.{Writes}
+use Rattle.cutting.specs.declared.Word.{Word}
+use Rattle.cutting.specs.Calls.{cutOf}
+use Rattle.cutting.specs.Cut.{Ending, Cut}
+use Rattle.cutting.specs.Cut.Ending.{Done, StuckAt, FullAt}
+use Rattle.cutting.specs.Flat.{recordCells}
+use Rattle.lines.specs.Lines.{wordLine, doneLine, stuckLine, refusedLine}
+use Rattle.programs.specs.declared.words.Turn.{Turn}
+use Rattle.programs.specs.declared.words.Turn.the-variants.{Onward, Last}
+
+-- ---- kinds
+
+-- the kind of a rule, and 0 where there is no such rule
+abbrev pub kindNumber : Outcome Told → ℕ
+kindNumber (gives (kind n)) = n
+kindNumber (gives none) = 0
+kindNumber (refuses r) = 0
+
+abbrev pub kindIn : List ℕ → ℕ → ℕ
+kindIn book rule = kindNumber (kindOf book rule)
+
+-- a list of kinds, one a rule
+abbrev pub Kinds : List ℕ → List ℕ → Type 0
+Kinds book kinds = (i : ℕ) → i < length kinds → getD kinds i 0 ≡ kindIn book i
+
+-- ---- lines
+
+-- words, each with the kind of its rule
+unfoldable pub wordLines : List ℕ → List Word → List ℕ
+wordLines kinds [] = []
+wordLines kinds (w ∷ ws) = wordLine (w .start) (w .len) (w .rule) (getD kinds (w .rule) 0) ++ wordLines kinds ws
+
+-- the same of so many records, as they lie in cells
+unfoldable pub cellLines : List ℕ → List ℕ → ℕ → List ℕ
+cellLines kinds cells zero = []
+cellLines kinds cells (suc n) =
+    wordLine (getD cells 0 0) (getD cells 1 0) (getD cells 2 0) (getD kinds (getD cells 2 0) 0) ++ cellLines kinds (drop recordCells cells) n
+
+-- the last line; a cut that goes on has none yet
+abbrev pub lastLine : ℕ → Ending → List ℕ
+lastLine total Done = doneLine total
+lastLine total (StuckAt at) = stuckLine at
+lastLine total (FullAt at) = []
+
+-- what a cut prints, where so many words went before
+abbrev pub cutLines : List ℕ → ℕ → Cut → List ℕ
+cutLines kinds before c = wordLines kinds (c .words) ++ lastLine (before + length (c .words)) (c .ending)
+
+-- ---- turns
+
+-- the cut of a turn: from a place on, with so many records, if the table is well formed
+abbrev pub turnOf : ℕ → List ℕ → List ℕ → Text → ℕ → ℕ → Outcome Cut
+turnOf s labels targets text at room =
+    cond (wellFormed s labels targets) (gives (cutOf (lent s labels targets) text at room)) (refuses Loaded)
+
+abbrev pub turnLines : List ℕ → ℕ → Outcome Cut → List ℕ
+turnLines kinds before (gives c) = cutLines kinds before c
+turnLines kinds before (refuses r) = refusedLine r
+
+-- after a turn: nothing more, or on from a place with so many words so far
+pub data Next : Type 0 where
+  stop : Next
+  onward : ℕ → ℕ → Next
+
+abbrev pub nextBy : ℕ → Ending → Next
+nextBy total Done = stop
+nextBy total (StuckAt at) = stop
+nextBy total (FullAt at) = onward at total
+
+abbrev pub nextAfter : ℕ → Outcome Cut → Next
+nextAfter before (gives c) = nextBy (before + length (c .words)) (c .ending)
+nextAfter before (refuses r) = stop
+
+-- the code's answer: what comes next, and where the lines end
+abbrev pub next : Turn → Next
+next (Onward at total end) = onward at total
+next (Last end) = stop
+
+abbrev pub endOf : Turn → ℕ
+endOf (Onward at total end) = end
+endOf (Last end) = end
+
+-- a turn adds no more words than there are records
+abbrev pub Few : ℕ → Turn → Type 0
+Few most (Onward at total end) = total ≤ most
+Few most (Last end) = Unit {0}
+
+-- what a turn does: its lines stand at the front of the buffer, o before and o′ now, and the answer says how it goes on
+pub record Turned (kinds : List ℕ) (before room : ℕ) (x : Outcome Cut) (o o′ : List ℕ) (r : Turn) : Type 0 where
+  pub lines : Writes (turnLines kinds before x) o o′ 0 (endOf r)
+  pub goes : next r ≡ nextAfter before x
+  pub fits : endOf r ≤ length o′
+  pub few : Few (before + room) r

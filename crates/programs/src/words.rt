@@ -1,0 +1,111 @@
+// The lines of a cut: turn by turn, each turn into the same records and the same buffer.
+// specs/Output.antt says what a turn prints, and specs/Turns.antt that the turns together print what one would.
+ghost use Prim.Native.Nat.{ℕ, _+_, _*_, _/_, _^_, _<_, _≤_};
+ghost use mathlib.Core.Path.{_≡_};
+ghost use lib.ListN.{length, getD, drop};
+ghost use Rattle.table.specs.Promises.{Writes};
+ghost use Rattle.cutting.specs.Flat.{recordCells};
+ghost use Rattle.lines.specs.Lines.{lineRoom};
+ghost use Rattle.programs.specs.Output.{kindIn as kindOfRule, Kinds, cellLines, turnOf, Turned};
+use book::RuleKind;
+use cutting::Ended;
+
+// The cells of a record: start, length, rule.
+pub const RECORD_CELLS: usize = 3;
+
+// How a turn ends: on from a place with so many words so far, or nothing more; and where its lines end.
+pub enum Turn {
+    Onward(usize, usize, usize),
+    Last(usize),
+}
+
+// The kind of a rule of a book, and 0 where there is no such rule.
+fn kind_in(book: &[u8], rule: usize) -> usize
+    ensures { λ r. ⌜ r ≡ kindOfRule (now (book .entry)) rule ⌝ }
+{
+    match book::rule_kind(book, rule) {
+        RuleKind::Kind(kind) => kind,
+        RuleKind::NoRule => 0,
+        RuleKind::Unknown(_) => 0,
+    }
+}
+
+// The kinds of a book's rules, looked up once for all words.
+pub fn look_up(book: &[u8], kinds: &mut [usize])
+    ensures { λ _. ⌜ Kinds (now (book .entry)) (now (kinds .exit)) ⌝ }
+{
+    let mut i: usize = 0;
+    while i < kinds.len() {
+        kinds[i] = kind_in(book, i);
+        i += 1;
+    }
+}
+
+fn kind_at(kinds: &[usize], rule: usize) -> usize
+    ensures { λ r. ⌜ r ≡ getD (now (kinds .entry)) rule 0 ⌝ }
+{
+    if rule < kinds.len() {
+        return kinds[rule];
+    }
+    0
+}
+
+// The lines of so many records, from record k on.
+fn put_words(
+    records: &[usize],
+    kinds: &[usize],
+    k: usize,
+    left: usize,
+    out: &mut [u8],
+    at: usize,
+) -> usize
+    requires { ⌜ recordCells * (k + left) ≤ length (now records) ⌝ }
+    requires { ⌜ at + lineRoom * left ≤ length (now out) ⌝ }
+    ensures { λ next. ⌜ Writes (cellLines (now (kinds .entry)) (drop (recordCells * k) (now (records .entry))) left)
+        (now (out .entry)) (now (out .exit)) at next ⌝ }
+    ensures { λ next. ⌜ next ≤ at + lineRoom * left ⌝ }
+{
+    if left == 0 {
+        return at;
+    }
+    let cell = RECORD_CELLS * k;
+    let rule = records[cell + 2];
+    let kind = kind_at(kinds, rule);
+    let next = lines::put_word(records[cell], records[cell + 1], rule, kind, out, at);
+    put_words(records, kinds, k + 1, left - 1, out, next)
+}
+
+// Cuts on from a place, and puts the lines of the words at the front of the buffer; where the text ends or is stuck, the last line too.
+pub fn cut_turn<'a>(
+    count: usize,
+    labels: &'a [u8],
+    targets: &'a [u8],
+    text: &'a [u8],
+    place: usize,
+    total: usize,
+    kinds: &[usize],
+    records: &mut [usize],
+    out: &mut [u8],
+) -> Turn
+    requires { ⌜ lineRoom * (length (now records) / recordCells + 1) ≤ length (now out) ⌝ }
+    requires { ⌜ total + length (now records) / recordCells < 2 ^ 64 ⌝ }
+    ensures { λ r. ⌜ Turned (now (kinds .entry)) total (length (now (records .entry)) / recordCells)
+        (turnOf count (now (labels .entry)) (now (targets .entry)) (now (text .entry)) place (length (now (records .entry)) / recordCells))
+        (now (out .entry)) (now (out .exit)) r ⌝ }
+{
+    match cutting::cut_from(count, labels, targets, text, place, records) {
+        Ended::Done(n) => {
+            let at = put_words(records, kinds, 0, n, out, 0);
+            Turn::Last(lines::put_done(total + n, out, at))
+        }
+        Ended::Stuck(n, stuck) => {
+            let at = put_words(records, kinds, 0, n, out, 0);
+            Turn::Last(lines::put_stuck(stuck, out, at))
+        }
+        Ended::Full(n, full) => {
+            let at = put_words(records, kinds, 0, n, out, 0);
+            Turn::Onward(full, total + n, at)
+        }
+        Ended::Refused(r) => Turn::Last(lines::put_refused(r, out, 0)),
+    }
+}

@@ -1,0 +1,260 @@
+//! Books that just meet or just pass a limit of reading or of the walk, each with a
+//! name; the selftest says what every one of them has to give.
+
+use crate::book::{alt, cat, choice, literal, one, power, star, Book, Expr};
+use crate::build::{alike, build, build_by};
+use crate::limits::{Caps, BYTES, CAPS};
+use crate::sheet::Table;
+use crate::sheets::{chain, clock, counter};
+
+/// a, so many times in a row.
+pub fn row_of_a(times: usize) -> Expr {
+    power(&one(b'a'), times)
+}
+
+/// Rules that remember the last letters: 38 terms each and 5 in common.
+pub fn bulk(rules: usize) -> Vec<Expr> {
+    let two = Expr::Range(b'a', b'b');
+    let rule = |i: usize| {
+        let tail = cat(power(&two, 4), one(b'c' + i as u8));
+        cat(star(two.clone()), cat(one(b'a'), tail))
+    };
+    (0..rules).map(rule).collect()
+}
+
+/// Literals of bytes that nothing else has: 2j - 1 terms each.
+fn fresh_literals(lengths: &[usize]) -> Vec<Expr> {
+    let mut fresh = (128..=255u8).chain(0..=31);
+    let mut text = |&length: &usize| fresh.by_ref().take(length).collect::<Vec<u8>>();
+    lengths.iter().map(|length| literal(&text(length))).collect()
+}
+
+/// Rules in bulk, then literals.
+pub fn pool_book(rules: usize, lengths: &[usize]) -> Book {
+    Book::of([bulk(rules), fresh_literals(lengths)].concat())
+}
+
+/// The rules with literals added that bring the distinct terms of the whole walk to
+/// exactly the given number, if they are fewer.
+pub fn filled(exprs: Vec<Expr>, terms: usize) -> Book {
+    let book = Book::of(exprs.clone());
+    let caps = Caps { states: 2_000, pool: 20_000, ..CAPS };
+    let held = build_by(&book, &alike(&book), caps).map_or(terms, |built| built.pool);
+    let missing = terms.saturating_sub(held);
+    let lengths = match missing % 2 {
+        _ if missing == 0 => vec![],
+        1 => vec![missing / 2 + 1],
+        _ => vec![missing / 4 + 1, missing / 2 - missing / 4],
+    };
+    Book::of([exprs, fresh_literals(&lengths)].concat())
+}
+
+/// Expressions whose number of distinct terms depends on the order of terms: on every
+/// two kinds that can meet, on lo before hi, and on left before right.
+pub fn order_gadgets() -> Vec<Expr> {
+    // Three letters for each gadget, and their range.
+    let letters = |i: u8| (one(33 + 3 * i), one(34 + 3 * i), one(35 + 3 * i), 33 + 3 * i);
+    let (p, _, r, _) = letters(0);
+    let first = star(alt(cat(star(p.clone()), cat(power(&p, 2), r)), star(p)));
+    let (p, _, r, low) = letters(1);
+    let pair = Expr::Range(low, low + 1);
+    let second = star(alt(cat(pair.clone(), alt(p, r)), star(pair)));
+    let (p, q, r, _) = letters(2);
+    let inner = alt(cat(star(r.clone()), cat(q.clone(), p)), q);
+    let third = alt(cat(star(r.clone()), inner), star(r));
+    let (_, q, r, low) = letters(3);
+    let front = cat(alt(r.clone(), star(q.clone())), star(q));
+    let fourth = cat(front, alt(cat(star(Expr::Range(low, low + 2)), star(r)), Expr::Empty));
+    let (p, q, _, _) = letters(4);
+    let fifth = star(cat(star(q.clone()), cat(star(p.clone()), cat(q, star(p)))));
+    vec![first, second, third, fourth, fifth]
+}
+
+/// Rules that remember more letters, a rule that counts letters and a literal: the
+/// 129th vector comes while the terms run out.
+pub fn crossing_book(rules: usize, back: usize, round: usize, length: usize) -> Book {
+    let two = Expr::Range(b'a', b'b');
+    let mut exprs = Vec::new();
+    for i in 0..rules {
+        let tail = cat(power(&two, back), one(b'c' + i as u8));
+        exprs.push(cat(star(two.clone()), cat(one(b'a'), tail)));
+    }
+    exprs.push(star(power(&two, round)));
+    exprs.push(literal(&(128..128 + length as u8).collect::<Vec<u8>>()));
+    Book::of(exprs)
+}
+
+/// A book at a limit and what its build has to give: states and terms, or a refusal.
+pub struct Edge {
+    pub name: &'static str,
+    pub book: Book,
+    pub expect: &'static str,
+}
+
+fn edge(name: &'static str, exprs: Vec<Expr>, expect: &'static str) -> Edge {
+    Edge { name, book: Book::of(exprs), expect }
+}
+
+/// Books whose reading meets or passes a limit.
+pub fn reading() -> Vec<Edge> {
+    let flat = |count: u8| (0..count).map(one).collect::<Vec<Expr>>();
+    let with_kind = |name, kind, expect| {
+        let mut made = edge(name, flat(1), expect);
+        made.book.rules[0].kind = kind;
+        made
+    };
+    let stars = |count: usize| vec![(1..count).fold(one(b'a'), |e, _| star(e))];
+    let twins = |count: usize| choice(vec![one(b'a'); count]);
+    let spread = |last: Expr| {
+        let mut exprs = vec![row_of_a(8); 31];
+        exprs.push(last);
+        exprs
+    };
+    let bs = power(&one(b'b'), 24);
+    vec![
+        edge("32 rules", flat(32), "34 states, 34 terms"),
+        edge("33 rules", flat(33), "refused 3 1"),
+        with_kind("kind 16383", 16_383, "3 states, 3 terms"),
+        with_kind("kind 16384", 16_384, "refused 3 2"),
+        edge("512 nodes, stars", stars(512), "2 states, 3 terms"),
+        edge("513 nodes, stars", stars(513), "refused 3 3"),
+        edge("512 nodes, equal members", vec![star(twins(256))], "2 states, 3 terms"),
+        edge("513 nodes, equal members", vec![twins(257)], "refused 3 3"),
+        edge("31 rules of 15 nodes, one of 47", spread(bs.clone()), "34 states, 34 terms"),
+        edge("31 rules of 15 nodes, one of 48", spread(star(bs)), "refused 3 1026"),
+        edge("256 and 256 nodes", vec![star(twins(128)); 2], "2 states, 3 terms"),
+        edge("256 and 257 nodes", vec![star(twins(128)), twins(129)], "refused 3 518"),
+        edge("512 and 1 nodes", vec![star(twins(256)), one(b'b')], "refused 3 1030"),
+    ]
+}
+
+/// Books whose walk meets or passes Long.
+pub fn long() -> Vec<Edge> {
+    let a = row_of_a;
+    let x = |times: usize| power(&one(b'x'), times);
+    let wide = || choice((0..128u8).map(|b| one(2 * b)).collect());
+    // For the star of (p Y | Z), a derivative by p of 2|Y| + |Z| + 5 nodes.
+    let looped = |y: Expr, z: Expr| vec![star(alt(cat(one(b'p'), y), z))];
+    let even = cat(a(61), star(one(b'b')));
+    let (b64, b63) = (power(&one(b'b'), 64), power(&one(b'b'), 63));
+    vec![
+        edge("a^129", vec![a(129)], "refused 6 0"),
+        edge("(a^64)*", vec![star(a(64))], "65 states, 129 terms"),
+        edge("(a^65)*", vec![star(a(65))], "refused 6 0"),
+        edge("128 bytes, 255 nodes", vec![wide()], "3 states, 257 terms"),
+        edge("their star, 256 nodes", vec![star(wide())], "refused 6 0"),
+        edge("a^64 | b^63, 253 nodes", vec![alt(a(64), b63)], "128 states, 130 terms"),
+        edge("a^64 | b^64, 255 nodes", vec![alt(a(64), b64.clone())], "refused 8 126"),
+        edge("a^64 | b^64 | c, 257 nodes", vec![alt(alt(a(64), b64), one(b'c'))], "refused 6 0"),
+        edge("derivative of 255 nodes", looped(even, star(one(b'z'))), "65 states, 134 terms"),
+        edge("derivative of 256 nodes", looped(a(63), one(b'z')), "refused 6 0"),
+        edge("a^128 Nothing", vec![cat(a(128), Expr::Nothing)], "1 states, 1 terms"),
+        edge("a^129 Nothing", vec![cat(a(129), Expr::Nothing)], "refused 6 0"),
+        edge("Nothing a^129", vec![cat(Expr::Nothing, a(129))], "refused 6 0"),
+        edge("a^120 | a^120, equal", vec![alt(a(120), a(120))], "122 states, 122 terms"),
+        edge("x (a^65)*", vec![cat(x(1), star(a(65)))], "refused 6 2"),
+        edge("x x x (a^65)*", vec![cat(x(3), star(a(65)))], "refused 6 4"),
+        edge("x* (a^65)*", vec![cat(star(x(1)), star(a(65)))], "refused 6 0"),
+        edge("x* (a^64)*", vec![cat(star(x(1)), star(a(64)))], "66 states, 132 terms"),
+        edge("b, then a^129", vec![one(b'b'), a(129)], "refused 6 0"),
+    ]
+}
+
+/// Books whose walk meets or passes States.
+pub fn states() -> Vec<Edge> {
+    let a = row_of_a;
+    let b = |times: usize| power(&one(b'b'), times);
+    let any = || star(Expr::Range(0, 255));
+    vec![
+        edge("a^126", vec![a(126)], "128 states, 128 terms"),
+        edge("a^127", vec![a(127)], "refused 8 127"),
+        edge("a^128", vec![a(128)], "refused 8 127"),
+        edge("a^126, b^127", vec![a(126), b(127)], "refused 8 126"),
+        edge("a^63, b^63", vec![a(63), b(63)], "128 states, 128 terms"),
+        edge("a^63, b^64", vec![a(63), b(64)], "refused 8 127"),
+        edge("any text, a^126", vec![any(), a(126)], "128 states, 130 terms"),
+        edge("any text, a^127", vec![any(), a(127)], "refused 8 127"),
+        edge("(a^9)*, (a^14)*", vec![star(a(9)), star(a(14))], "127 states, 38 terms"),
+        edge("(a^11)*, (a^12)*", vec![star(a(11)), star(a(12))], "refused 8 127"),
+    ]
+}
+
+/// Books whose walk meets or passes Pool, and books that pass States and Pool at the
+/// same step.
+pub fn pool() -> Vec<Edge> {
+    let made = |name, book, expect| Edge { name, book, expect };
+    let gadgets = |rules| [order_gadgets(), bulk(rules)].concat();
+    vec![
+        made("by order, 1024", filled(gadgets(24), 1_024), "96 states, 1024 terms"),
+        made("by order, 1025", filled(gadgets(24), 1_025), "refused 7 46"),
+        made("by order, 1024 again", filled(gadgets(23), 1_024), "114 states, 1024 terms"),
+        made("by order, 1025 again", filled(gadgets(23), 1_025), "refused 7 46"),
+        made("26 + [16]", pool_book(26, &[16]), "76 states, 1024 terms"),
+        made("26 + [8, 9]", pool_book(26, &[8, 9]), "refused 7 26"),
+        made("25 + [10, 12, 14]", pool_book(25, &[10, 12, 14]), "95 states, 1024 terms"),
+        made("25 + [17, 19]", pool_book(25, &[17, 19]), "refused 7 26"),
+        made("24 + [18, 18, 19]", pool_book(24, &[18, 18, 19]), "113 states, 1024 terms"),
+        made("24 + [27, 28]", pool_book(24, &[27, 28]), "refused 7 26"),
+        made("27 + []", pool_book(27, &[]), "refused 7 16"),
+        made("10 rules, States and Pool", crossing_book(10, 6, 2, 1), "refused 8 65"),
+        made("12 rules, States and Pool", crossing_book(12, 6, 3, 2), "refused 8 66"),
+        made("13 rules, States and Pool", crossing_book(13, 6, 4, 1), "refused 8 65"),
+    ]
+}
+
+/// All of them.
+pub fn all() -> Vec<Edge> {
+    [reading(), long(), states(), pool()].into_iter().flatten().collect()
+}
+
+/// A book, a table and what `compare` has to print for them.
+pub struct Meeting {
+    pub name: &'static str,
+    pub book: Book,
+    pub table: Table,
+    pub expect: String,
+}
+
+/// Comparisons that meet or pass a limit, or whose text is long or empty.
+pub fn meetings() -> Vec<Meeting> {
+    let a = row_of_a;
+    let meet = |name, exprs, table, expect: &str| Meeting {
+        name,
+        book: Book::of(exprs),
+        table,
+        expect: expect.to_string(),
+    };
+    let differs = |byte: &str, length: usize, book: usize, sheet: usize| {
+        format!("differs {length} {book} {sheet}\n{}\n", byte.repeat(length))
+    };
+    let any = || Expr::Range(0, 255);
+    let lone = |label: usize| Table { labels: vec![label], targets: vec![0; BYTES] };
+    let chained = build(&Book::of(vec![a(126)])).expect("a^126 builds");
+    let crossing = crossing_book(8, 6, 1, 1);
+    let pool = pool_book(26, &[8, 9]);
+    vec![
+        meet("256 pairs", vec![star(a(15))], counter(b'a', 17, 1), &differs("61", 15, 1, 0)),
+        meet("257 pairs", vec![star(a(15))], counter(b'a', 17, 2), "refused 12 255\n"),
+        meet("15 against 15", vec![star(a(15))], counter(b'a', 15, 2), "same\n"),
+        meet("a^127 by a^126", vec![a(127)], chained, &differs("61", 126, 0, 1)),
+        meet("any, a^127 by one state", vec![star(any()), a(127)], lone(1), "same\n"),
+        meet("189 bytes", vec![star(power(&any(), 63))], chain(128, 63), &differs("00", 189, 1, 0)),
+        meet("empty text", vec![Expr::Empty], lone(0), "differs 0 1 0\n\n"),
+        meet("label above n", vec![Expr::Nothing], lone(32), "differs 0 0 32\n\n"),
+        meet("Long at vector 0", vec![a(129)], lone(0), "refused 6 0\n"),
+        meet("Long at pair 2", vec![cat(one(b'x'), star(a(65)))], lone(0), "refused 6 2\n"),
+        meet(
+            "Long at pair 5",
+            vec![cat(one(b'x'), star(a(65)))],
+            counter(b'x', 3, 4),
+            "refused 6 5\n",
+        ),
+        Meeting { name: "Pool", book: pool, table: lone(0), expect: "refused 7 26\n".into() },
+        Meeting {
+            name: "Pairs and Pool at one step",
+            book: crossing,
+            table: clock(8, 66),
+            expect: "refused 12 163\n".into(),
+        },
+    ]
+}

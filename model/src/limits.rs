@@ -1,0 +1,38 @@
+//! Every fixed limit of the word cutter, gathered in one place.
+//! All other files take their bounds from here and write none of their own.
+
+/// Greatest number of seven-bit groups in one number.
+pub const GROUPS: usize = 3;
+/// The only version of books and sheets.
+pub const VERSION: usize = 1;
+/// Greatest number of rules in a book, and so the greatest label.
+pub const RULES: usize = 32;
+/// Greatest kind of a rule.
+pub const KIND: usize = 16_383;
+/// Greatest number of nodes in a book.
+pub const NODES: usize = 512;
+/// Greatest number of tree nodes in a term.
+pub const TERM: usize = 255;
+/// Greatest number of states in a table.
+pub const STATES: usize = 128;
+/// Greatest number of distinct terms in the held vectors and their parts.
+pub const POOL: usize = 1_024;
+/// Greatest number of pairs that a comparison holds.
+pub const PAIRS: usize = 256;
+/// The three caps on what a walk holds, in one value so that the selftest can try others.
+#[derive(Clone, Copy, Debug)]
+pub struct Caps {
+    pub states: usize,
+    pub pool: usize,
+    pub pairs: usize,
+}
+/// The caps of the specification.
+pub const CAPS: Caps = Caps { states: STATES, pool: POOL, pairs: PAIRS };
+/// Number of bytes there are: the targets of one state, the sum of its runs.
+pub const BYTES: usize = 256;
+/// Greatest length of the file words.book.
+pub const BOOK_FILE: usize = 4_096;
+/// Greatest length of standard input.
+pub const TEXT_FILE: usize = 32_768;
+/// Greatest length of the file words.sheet.
+pub const SHEET_FILE: usize = 65_536;

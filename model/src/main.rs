@@ -1,0 +1,79 @@
+//! A model of the word cutter, written from its specification alone; it does what the
+//! programs do, makes cases for them with the expected outputs, and tests itself.
+
+mod book;
+mod brute;
+mod build;
+mod cases;
+mod crosschecks;
+mod cut;
+mod damage;
+mod edges;
+mod faults;
+mod limits;
+mod number;
+mod prng;
+mod programs;
+mod random;
+mod refusal;
+mod selftest;
+mod sheet;
+mod sheets;
+mod term;
+mod worked;
+
+use std::fs;
+use std::io::{self, Read, Write};
+use std::path::Path;
+use std::process::ExitCode;
+
+const USAGE: &str =
+    "model cut DIR | compare DIR | sheet DIR | cases N SEED OUT | limits | selftest";
+
+fn main() -> ExitCode {
+    let arguments: Vec<String> = std::env::args().skip(1).collect();
+    let words: Vec<&str> = arguments.iter().map(String::as_str).collect();
+    match run(&words) {
+        Ok(true) => ExitCode::SUCCESS,
+        Ok(false) => ExitCode::FAILURE,
+        Err(error) => {
+            eprintln!("model: {error}");
+            ExitCode::from(2)
+        }
+    }
+}
+
+/// Runs one subcommand; answers whether all is well.
+fn run(words: &[&str]) -> io::Result<bool> {
+    match words {
+        ["cut", folder] => {
+            let book = file(folder, "words.book");
+            let mut bytes = Vec::new();
+            let text = io::stdin().read_to_end(&mut bytes).ok().map(|_| &bytes[..]);
+            io::stdout().write_all(&programs::cut(book.as_deref(), text))?;
+        }
+        ["compare", folder] => {
+            let (book, sheet) = (file(folder, "words.book"), file(folder, "words.sheet"));
+            io::stdout().write_all(&programs::comparison(book.as_deref(), sheet.as_deref()))?;
+        }
+        ["sheet", folder] => match programs::sheet(file(folder, "words.book").as_deref()) {
+            Ok(sheet) => fs::write(Path::new(folder).join("words.sheet"), sheet)?,
+            Err(refusal) => print!("{}", refusal.line()),
+        },
+        ["cases", count, seed, folder] => {
+            let (Ok(count), Ok(seed)) = (count.parse(), seed.parse()) else {
+                return Err(io::Error::other(USAGE));
+            };
+            cases::put_cases(count, seed, Path::new(folder))?;
+        }
+        ["limits"] => selftest::print_limits(),
+        ["selftest"] => return Ok(selftest::run()),
+        _ => return Err(io::Error::other(USAGE)),
+    }
+    Ok(true)
+}
+
+/// A file's bytes, if it can be read.
+fn file(folder: &str, name: &str) -> Option<Vec<u8>> {
+    fs::read(Path::new(folder).join(name)).ok()
+}

@@ -1,0 +1,288 @@
+//! The model's test of itself, first part: numbers, files, the sample book with its
+//! worked lines, and the limits; the second part is in `crosschecks`.
+
+use crate::book;
+use crate::brute;
+use crate::build::{alike, build_by, compare_by};
+use crate::crosschecks;
+use crate::cut::{cut, first_word, End, Word};
+use crate::damage::damage;
+use crate::edges::{all, crossing_book, meetings, Edge};
+use crate::faults;
+use crate::limits::{Caps, CAPS};
+use crate::number::{self, Reader};
+use crate::prng::Rng;
+use crate::programs;
+use crate::random::{heavy_book, scanner_book, small_book, wide_book};
+use crate::refusal::{Fault, Refusal};
+use crate::sheet;
+use crate::sheets;
+use crate::worked::{sample_book, sample_table, OUTPUT, SAMPLE, TEXT};
+
+/// Counts checks and names those that fail.
+#[derive(Default)]
+pub struct Checks {
+    passed: usize,
+    failed: usize,
+}
+
+impl Checks {
+    pub fn check(&mut self, what: &str, right: bool) {
+        if right {
+            self.passed += 1;
+        } else {
+            self.failed += 1;
+            if self.failed <= 30 {
+                println!("failed: {what}");
+            }
+        }
+    }
+}
+
+/// Runs every check; answers whether none failed.
+pub fn run() -> bool {
+    let mut checks = Checks::default();
+    numbers(&mut checks);
+    books(&mut checks);
+    sheets_read(&mut checks);
+    faulty(&mut checks);
+    sample(&mut checks);
+    limits(&mut checks);
+    crosschecks::run(&mut checks);
+    println!("{} passed, {} failed", checks.passed, checks.failed);
+    checks.failed == 0
+}
+
+/// A number by trying its shortest form: where it ends is where the first low byte is.
+fn number_again(bytes: &[u8]) -> Result<(usize, usize), Fault> {
+    let Some(last) = bytes.iter().take(3).position(|&byte| byte < 0x80) else {
+        return Err(if bytes.len() < 3 { Fault::Short } else { Fault::Number });
+    };
+    let groups = bytes[..=last].iter().rev();
+    let value = groups.fold(0, |value, &byte| value * 128 + usize::from(byte % 128));
+    let mut shortest = Vec::new();
+    number::write(value, &mut shortest);
+    if shortest != bytes[..=last] {
+        return Err(Fault::Number);
+    }
+    Ok((value, last + 1))
+}
+
+fn numbers(checks: &mut Checks) {
+    for value in 0..1 << 21 {
+        let mut bytes = vec![];
+        number::write(value, &mut bytes);
+        let length = 1 + usize::from(value >= 1 << 7) + usize::from(value >= 1 << 14);
+        let right = bytes.len() == length && Reader::new(&bytes).any() == Ok(value);
+        if value % 4096 == 0 || !right {
+            checks.check(&format!("number {value}"), right);
+        }
+    }
+    for (value, bytes) in [(128, [0x80, 0x01]), (300, [0xAC, 0x02]), (16_383, [0xFF, 0x7F])] {
+        let mut written = vec![];
+        number::write(value, &mut written);
+        checks.check("a worked number", written == bytes);
+    }
+    let ends = [0x00, 0x01, 0x7F, 0x80, 0x81, 0xFF];
+    for first in 0..=255u8 {
+        for second in 0..=255u8 {
+            let mut right = true;
+            for third in ends {
+                for length in 0..=3 {
+                    let bytes = &[first, second, third][..length];
+                    let mut reader = Reader::new(bytes);
+                    let read = reader.any().map(|value| (value, reader.at()));
+                    let place = read.map_err(|refusal| refusal.place).err().unwrap_or(0);
+                    right &= place == 0 && read.map_err(|r| r.fault) == number_again(bytes);
+                }
+            }
+            checks.check(&format!("numbers that begin {first} {second}"), right);
+        }
+    }
+}
+
+fn books(checks: &mut Checks) {
+    for seed in 0..600 {
+        let mut rng = Rng::part(1, seed);
+        let book = match seed % 4 {
+            0 => small_book(&mut rng, 6, 12),
+            1 => wide_book(&mut rng),
+            2 => scanner_book(&mut rng),
+            _ => heavy_book(&mut rng),
+        };
+        if book.nodes() > 512 {
+            continue;
+        }
+        let bytes = book.write();
+        checks.check("a book read again", book::read(&bytes) == Ok(book));
+        let short = |length| {
+            let refusal = book::read(&bytes[..length]).expect_err("it is too short");
+            refusal.fault == Fault::Short && length - refusal.place <= 2
+        };
+        checks.check("every early end is Short", (0..bytes.len()).all(short));
+        let late = [&bytes[..], &[rng.byte()]].concat();
+        let tail = Refusal { fault: Fault::Tail, place: bytes.len() };
+        checks.check("a spare byte is Tail", book::read(&late) == Err(tail));
+        for _ in 0..40 {
+            let mut spoilt = bytes.clone();
+            damage(&mut rng, &mut spoilt);
+            let right = match book::read(&spoilt) {
+                Ok(book) => book.write() == spoilt,
+                Err(refusal) => refusal.place <= spoilt.len() && refusal.fault <= Fault::Tail,
+            };
+            checks.check("a damaged book is refused or written alike", right);
+        }
+    }
+}
+
+fn sheets_read(checks: &mut Checks) {
+    for count in [0, 129] {
+        let lent = sheet::lent(count, &vec![0; count], &vec![0; 256 * count]);
+        checks.check("no table of 0 or 129 states", lent.is_err());
+    }
+    for seed in 0..300 {
+        let mut rng = Rng::part(2, seed);
+        let count = *rng.pick(&[1, 2, 3, 8, 30, 128]);
+        let table = sheets::random(&mut rng, count);
+        let lent = |table: &sheet::Table| sheet::lent(count, &table.labels, &table.targets);
+        checks.check("a random table is well formed", lent(&table).as_ref() == Ok(&table));
+        let mut cells = table.clone();
+        cells.labels.push(99);
+        cells.targets.push(999);
+        checks.check("cells past the table may be anything", lent(&cells).as_ref() == Ok(&table));
+        let mut cells = table.clone();
+        match rng.below(4) {
+            0 => cells.labels[rng.below(count)] = 33,
+            1 => cells.targets[rng.below(256 * count)] = count,
+            2 => drop(cells.labels.pop()),
+            _ => drop(cells.targets.pop()),
+        }
+        let loaded = Refusal { fault: Fault::Loaded, place: 0 };
+        checks.check("a spoilt table is refused", lent(&cells) == Err(loaded));
+        let bytes = sheet::write(&table);
+        checks.check("a sheet read again", sheet::read(&bytes) == Ok(table));
+        let length = rng.below(bytes.len());
+        let early = sheet::read(&bytes[..length]).expect_err("it is too short");
+        checks.check("an early end is Short", early.fault == Fault::Short);
+        for _ in 0..40 {
+            let mut spoilt = bytes.clone();
+            damage(&mut rng, &mut spoilt);
+            let right = match sheet::read(&spoilt) {
+                Ok(table) => sheet::write(&table) == spoilt,
+                Err(refusal) => refusal.place <= spoilt.len(),
+            };
+            checks.check("a damaged sheet is refused or written alike", right);
+        }
+    }
+}
+
+/// The files written by hand; fault 0 is none.
+fn faulty(checks: &mut Checks) {
+    let found = |refusal: Option<Refusal>| refusal.map_or((0, 0), |r| (r.fault as u8, r.place));
+    for (bytes, fault, place) in faults::BOOKS {
+        let read = found(book::read(bytes).err());
+        checks.check(&format!("book {bytes:02X?}: {read:?}"), read == (*fault, *place));
+    }
+    for (bytes, fault, place) in faults::SHEETS {
+        let read = found(sheet::read(bytes).err());
+        checks.check(&format!("sheet {bytes:02X?}: {read:?}"), read == (*fault, *place));
+    }
+}
+
+fn sample(checks: &mut Checks) {
+    let (book, table) = (sample_book(), sample_table());
+    let own = sheet::write(&table);
+    checks.check("sample nodes", book.rules.len() == 4 && book.nodes() == 12);
+    checks.check("sample written", book.write() == SAMPLE);
+    checks.check("sample labels", table.labels == [0, 0, 4, 3, 2, 2, 1]);
+    checks.check("sample dead state", table.row(1).iter().all(|&target| target == 1));
+    checks.check("sample t and to", table.step(0, b't') == 5 && table.step(5, b'o') == 6);
+    let lines: [(&[u8], usize); 7] =
+        [(b"to", 1), (b"tom", 2), (b"t", 2), (b"7", 3), (b" ", 4), (b"", 0), (b"t7", 0)];
+    for (text, label) in lines {
+        checks.check("P1 to P7", table.label(text) == label);
+        let ends = |rule: &book::Rule| brute::ends(&rule.expr, text, 0).contains(&text.len());
+        let found = book.rules.iter().position(ends).map_or(0, |rule| rule + 1);
+        checks.check("P1 to P7 by sets", found == label);
+    }
+    let words: [(&[u8], Option<(usize, usize)>); 3] =
+        [(b"t7", Some((1, 1))), (b"tom 7", Some((3, 1))), (b"#", None)];
+    for (text, word) in words {
+        checks.check("P8 to P10", first_word(&table, text) == word);
+        checks.check("P8 to P10 by sets", brute::first_word(&book, text) == word);
+    }
+    let output = programs::cut(Some(&SAMPLE), Some(TEXT));
+    checks.check("sample output", output == OUTPUT.as_bytes());
+    let compared = |sheet: &[u8]| programs::comparison(Some(&SAMPLE), Some(sheet));
+    checks.check("sample against its own sheet", compared(&own) == b"same\n");
+    for take_out in [true, false] {
+        let sheet = sheet::write(&sheets::merged(&table, 5, 4, take_out));
+        checks.check("sample against a merged sheet", compared(&sheet) == b"differs 2 1 2\n746f\n");
+    }
+    let words = [Word { start: 0, length: 2, rule: 0 }, Word { start: 2, length: 1, rule: 3 }];
+    let full = (words.to_vec(), End::Full { count: 2, place: 3 });
+    checks.check("sample with room for two", cut(&table, TEXT, 2) == full);
+    checks.check("no room", cut(&table, TEXT, 0) == (vec![], End::Full { count: 0, place: 0 }));
+    let stuck = (words[..1].to_vec(), End::Stuck { count: 1, place: 2 });
+    checks.check("stuck before full", cut(&table, b"to#", 1) == stuck);
+    // Rules 1 and 1.1: the text 1.. begins with the word 1.
+    let dots = book::Book::of(vec![book::literal(b"1"), book::literal(b"1.1")]);
+    let output = programs::cut(Some(&dots.write()), Some(b"1.."));
+    checks.check("back to the last label", output == b"0 1 0 1\nstuck 1\n");
+}
+
+/// What the reading and the build of a book at a limit give.
+fn outcome(edge: &Edge) -> String {
+    let built = book::read(&edge.book.write());
+    match built.and_then(|book| build_by(&book, &alike(&book), CAPS)) {
+        Ok(built) => format!("{} states, {} terms", built.table.count(), built.pool),
+        Err(refusal) => refusal.line().trim_end().to_string(),
+    }
+}
+
+fn limits(checks: &mut Checks) {
+    for edge in all() {
+        checks.check(edge.name, outcome(&edge) == edge.expect);
+    }
+    for meeting in meetings() {
+        let sheet = sheet::write(&meeting.table);
+        let output = programs::comparison(Some(&meeting.book.write()), Some(&sheet));
+        checks.check(meeting.name, output == meeting.expect.as_bytes());
+    }
+    // With room for one more vector or pair, the same step refuses Pool.
+    for (rules, back, round, length) in [(10, 6, 2, 1), (12, 6, 3, 2), (13, 6, 4, 1)] {
+        let book = crossing_book(rules, back, round, length);
+        let refused = |states| {
+            let caps = Caps { states, ..CAPS };
+            build_by(&book, &alike(&book), caps).err()
+        };
+        let (first, second) = (refused(128), refused(129));
+        let right = first.map(|r| r.place) == second.map(|r| r.place);
+        checks.check("States before Pool", right && second.map(|r| r.fault) == Some(Fault::Pool));
+    }
+    let book = crossing_book(8, 6, 1, 1);
+    let caps = Caps { pairs: 257, ..CAPS };
+    let refused = compare_by(&book, &sheets::clock(8, 66), &alike(&book), caps).err();
+    let pool = Refusal { fault: Fault::Pool, place: 163 };
+    checks.check("Pairs before Pool", refused == Some(pool));
+}
+
+/// Prints every book and meeting at a limit with what it gives.
+pub fn print_limits() {
+    for edge in all() {
+        let nodes = edge.book.nodes();
+        println!(
+            "{}: {nodes} nodes, {} bytes: {}",
+            edge.name,
+            edge.book.write().len(),
+            outcome(&edge)
+        );
+    }
+    for meeting in meetings() {
+        let compared = compare_by(&meeting.book, &meeting.table, &alike(&meeting.book), CAPS);
+        match compared {
+            Ok(found) => println!("{}: {} pairs, {} terms", meeting.name, found.pairs, found.pool),
+            Err(refusal) => print!("{}: {}", meeting.name, refusal.line()),
+        }
+    }
+}

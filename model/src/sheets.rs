@@ -1,0 +1,149 @@
+//! Tables made for comparing: other numberings, spare states, merged states, other
+//! labels and targets, counters, random tables, and sheets of a given length.
+
+use crate::limits::{BYTES, STATES};
+use crate::prng::Rng;
+use crate::sheet::Table;
+
+/// The same table with its states renumbered; `order[new]` is the old number.
+pub fn renumbered(table: &Table, order: &[usize]) -> Table {
+    let mut new = vec![0; order.len()];
+    for (i, &old) in order.iter().enumerate() {
+        new[old] = i;
+    }
+    Table {
+        labels: order.iter().map(|&old| table.labels[old]).collect(),
+        targets: order.iter().flat_map(|&old| table.row(old)).map(|&t| new[t]).collect(),
+    }
+}
+
+/// A random renumbering that keeps the start.
+pub fn shuffled(rng: &mut Rng, table: &Table) -> Table {
+    let mut order: Vec<usize> = (0..table.count()).collect();
+    rng.shuffle(&mut order[1..]);
+    renumbered(table, &order)
+}
+
+/// The table with up to `more` states that nothing leads to.
+pub fn with_spare(rng: &mut Rng, table: &Table, more: usize) -> Table {
+    let mut wider = table.clone();
+    let count = table.count() + more;
+    for _ in 0..more {
+        wider.labels.push(rng.below(33));
+        let target = rng.below(count);
+        let other = rng.below(count);
+        let bend = rng.below(BYTES);
+        wider.targets.extend((0..BYTES).map(|byte| if byte < bend { target } else { other }));
+    }
+    wider
+}
+
+/// The table in which every way to state `gone` leads to state `kept` instead; the
+/// state itself stays as a spare one, or is taken out.
+pub fn merged(table: &Table, gone: usize, kept: usize, take_out: bool) -> Table {
+    let mut new = table.clone();
+    for target in &mut new.targets {
+        if *target == gone {
+            *target = kept;
+        }
+    }
+    if !take_out || gone == 0 {
+        return new;
+    }
+    new.labels.remove(gone);
+    new.targets.drain(BYTES * gone..BYTES * (gone + 1));
+    for target in &mut new.targets {
+        if *target > gone {
+            *target -= 1;
+        }
+    }
+    new
+}
+
+/// A change to one label or to one or a few targets.
+pub fn changed(rng: &mut Rng, table: &Table) -> Table {
+    let mut new = table.clone();
+    let state = rng.below(table.count());
+    if rng.chance(50) {
+        new.labels[state] = rng.below(33);
+    } else {
+        let target = rng.below(table.count());
+        let from = rng.below(BYTES);
+        let to = rng.within(from, (from + 3).min(BYTES - 1));
+        new.targets[BYTES * state + from..=BYTES * state + to].fill(target);
+    }
+    new
+}
+
+/// A random table; rows have few runs or many.
+pub fn random(rng: &mut Rng, count: usize) -> Table {
+    let mut table = Table { labels: Vec::new(), targets: Vec::new() };
+    for _ in 0..count {
+        table.labels.push(if rng.chance(40) { 0 } else { rng.below(33) });
+        let bend = *rng.pick(&[1, 10, 60, 100]);
+        let mut target = rng.below(count);
+        for _ in 0..BYTES {
+            if rng.chance(bend) {
+                target = rng.below(count);
+            }
+            table.targets.push(target);
+        }
+    }
+    table
+}
+
+/// A table that counts one byte modulo `round` (label 1 at 0) and sends every other
+/// byte to one of `dead` dead states, byte by byte in turn.
+pub fn counter(byte: u8, round: usize, dead: usize) -> Table {
+    let mut table = Table { labels: vec![0; round + dead], targets: Vec::new() };
+    table.labels[0] = 1;
+    for state in 0..round + dead {
+        for other in 0..BYTES {
+            table.targets.push(match () {
+                _ if state >= round => state,
+                _ if other == usize::from(byte) => (state + 1) % round,
+                _ => round + other % dead,
+            });
+        }
+    }
+    table
+}
+
+/// A chain of states along any bytes whose last state keeps to itself; the label is
+/// 1 at the multiples of `round`, but 0 on the last state.
+pub fn chain(count: usize, round: usize) -> Table {
+    let label = |state| usize::from(state % round == 0 && state + 1 < count);
+    let target = |state: usize| (state + 1).min(count - 1);
+    Table {
+        labels: (0..count).map(label).collect(),
+        targets: (0..count).flat_map(|state| vec![target(state); BYTES]).collect(),
+    }
+}
+
+/// 128 states in which neighbouring bytes always have different targets, but that
+/// state 0 has only `runs` runs, the first of them of length `first`.
+pub fn crowded(runs: usize, first: usize) -> Table {
+    let mut table = Table { labels: vec![0; STATES], targets: Vec::new() };
+    let left = BYTES - first;
+    for byte in 0..BYTES {
+        let run =
+            if byte < first { 0 } else { 1 + (byte - first).min(left - 1) * (runs - 1) / left };
+        table.targets.push(run % STATES);
+    }
+    for state in 1..STATES {
+        table.targets.extend((0..BYTES).map(|byte| (byte + state) % STATES));
+    }
+    table
+}
+
+/// A table without labels that counts bytes modulo `round`, but from the start the
+/// last `spread` bytes lead to as many states of their own.
+pub fn clock(round: usize, spread: usize) -> Table {
+    let target = |state: usize, byte: usize| match () {
+        _ if state >= round => state,
+        _ if state == 0 && byte >= BYTES - spread => round + byte - (BYTES - spread),
+        _ => (state + 1) % round,
+    };
+    let row = |state: usize| (0..BYTES).map(move |byte| target(state, byte));
+    Table { labels: vec![0; round + spread], targets: (0..round + spread).flat_map(row).collect() }
+}

@@ -1,0 +1,137 @@
+//! The sample book of the specification and the other fixed cases that every set of
+//! cases begins with: file sizes, odd files, and the books and meetings at the limits.
+
+use crate::book::{self, one, Book};
+use crate::build::build;
+use crate::cases::{Case, File};
+use crate::edges::{all, meetings};
+use crate::faults;
+use crate::limits::{BOOK_FILE, TEXT_FILE};
+use crate::prng::Rng;
+use crate::random::joined_text;
+use crate::sheet::{self, Table};
+use crate::sheets::{crowded, merged, random};
+
+/// The sample book, byte for byte.
+pub const SAMPLE: [u8; 36] = [
+    0x01, 0x04, // four rules
+    0x01, 0x03, 0x02, 0x74, 0x74, 0x02, 0x6F, 0x6F, 0x03, // the word "to"
+    0x02, 0x04, 0x02, 0x61, 0x7A, 0x02, 0x61, 0x7A, 0x05, 0x03, // letters
+    0x03, 0x04, 0x02, 0x30, 0x39, 0x02, 0x30, 0x39, 0x05, 0x03, // digits
+    0x00, 0x01, 0x02, 0x20, 0x20, // a space
+];
+
+/// The text of the worked example and what `cut` prints for it.
+pub const TEXT: &[u8] = b"to tom 7";
+pub const OUTPUT: &str = "0 2 0 1\n2 1 3 0\n3 3 1 2\n6 1 3 0\n7 1 2 3\ndone 5\n";
+
+pub fn sample_book() -> Book {
+    book::read(&SAMPLE).expect("the sample book is right")
+}
+
+pub fn sample_table() -> Table {
+    build(&sample_book()).expect("the sample book builds")
+}
+
+fn case(name: &str, book: &[u8], text: &[u8], sheet: &[u8]) -> Case {
+    Case {
+        name: name.to_string(),
+        book: File::Bytes(book.to_vec()),
+        text: text.to_vec(),
+        sheet: File::Bytes(sheet.to_vec()),
+    }
+}
+
+/// Every fixed case; the generator only chooses texts and tables that do not matter.
+pub fn fixed(rng: &mut Rng) -> Vec<Case> {
+    let mut cases = sample_cases();
+    cases.extend(file_cases());
+    for edge in all() {
+        let text = joined_text(rng, &edge.book, 400);
+        let table = build(&edge.book).unwrap_or_else(|_| random(rng, 3));
+        cases.push(case(edge.name, &edge.book.write(), &text, &sheet::write(&table)));
+    }
+    for meeting in meetings() {
+        let text = joined_text(rng, &meeting.book, 400);
+        let sheet = sheet::write(&meeting.table);
+        cases.push(case(meeting.name, &meeting.book.write(), &text, &sheet));
+    }
+    let own = sheet::write(&sample_table());
+    for (bytes, _, _) in faults::BOOKS {
+        cases.push(case("book with a fault", bytes, TEXT, &own));
+    }
+    for (bytes, _, _) in faults::SHEETS {
+        cases.push(case("sheet with a fault", &SAMPLE, TEXT, bytes));
+    }
+    for (name, count) in [("128 states", 128), ("129 states", 129)] {
+        let table = Table { labels: vec![0; count], targets: vec![0; 256 * count] };
+        cases.push(case(name, &SAMPLE, TEXT, &sheet::write(&table)));
+    }
+    for (name, runs, first) in
+        [("65536 bytes", 63, 4), ("65537 bytes", 63, 130), ("65923 bytes", 256, 1)]
+    {
+        cases.push(case(name, &SAMPLE, TEXT, &sheet::write(&crowded(runs, first))));
+    }
+    cases
+}
+
+/// The sample book, whole and in parts, against its own sheet and a merged one.
+fn sample_cases() -> Vec<Case> {
+    let table = sample_table();
+    let own = sheet::write(&table);
+    let mut cases = vec![case("sample", &SAMPLE, TEXT, &own)];
+    for take_out in [true, false] {
+        let sheet = sheet::write(&merged(&table, 5, 4, take_out));
+        cases.push(case("sample, merged", &SAMPLE, b"t7", &sheet));
+    }
+    cases.push(case("sample, stuck", &SAMPLE, b"to #tom", &own));
+    for length in 0..SAMPLE.len() {
+        let text = &TEXT[..length % 9];
+        cases.push(case("sample, early", &SAMPLE[..length], text, &own));
+    }
+    for length in [0, 1, 2, 3, 4, 5, own.len() - 1] {
+        cases.push(case("sheet, early", &SAMPLE, TEXT, &own[..length]));
+    }
+    for spare in [0x00, 0x80] {
+        let late = [&SAMPLE[..], &[spare]].concat();
+        let sheet = [&own[..], &[spare]].concat();
+        cases.push(case("sample, late", &late, TEXT, &own));
+        cases.push(case("sheet, late", &SAMPLE, TEXT, &sheet));
+    }
+    for bytes in
+        [&[0x80][..], &[0x80, 0x00], &[0x80, 0x80], &[0x80, 0x80, 0x80], &[0x80, 0x80, 0x00]]
+    {
+        let version = [bytes, &SAMPLE[1..]].concat();
+        cases.push(case("number alone", bytes, TEXT, bytes));
+        cases.push(case("number before the rest", &version, TEXT, &own));
+        let label = [&own[..2], bytes, &own[3..]].concat();
+        cases.push(case("number as a label", &SAMPLE, TEXT, &label));
+    }
+    cases
+}
+
+/// Files that are missing, folders, or at their greatest size.
+fn file_cases() -> Vec<Case> {
+    let own = sheet::write(&sample_table());
+    let plain = |name: &str| case(name, &SAMPLE, TEXT, &own);
+    let over = vec![b'x'; TEXT_FILE + 1];
+    let full = TEXT.iter().chain(b" ").copied().cycle().take(TEXT_FILE).collect::<Vec<u8>>();
+    let long_book = |length: usize| [&SAMPLE[..], &vec![0; length - SAMPLE.len()]].concat();
+    let ones = Book::of(vec![one(b'x')]).write();
+    vec![
+        Case { book: File::Missing, ..plain("no book") },
+        Case { sheet: File::Missing, ..plain("no sheet") },
+        Case { book: File::Folder, ..plain("book is a folder") },
+        Case { sheet: File::Folder, ..plain("sheet is a folder") },
+        Case { book: File::Missing, sheet: File::Missing, ..plain("no files") },
+        Case { sheet: File::Missing, ..case("bad book, no sheet", &SAMPLE[..9], TEXT, &own) },
+        case("bad book, bad sheet", &SAMPLE[..9], TEXT, &own[..9]),
+        case("book of 4096 bytes", &long_book(BOOK_FILE), TEXT, &own),
+        case("book of 4097 bytes", &long_book(BOOK_FILE + 1), TEXT, &own),
+        case("text of 32768 bytes", &SAMPLE, &full, &own),
+        case("32768 words", &ones, &over[..TEXT_FILE], &own),
+        case("text of 32769 bytes", &SAMPLE, &over, &own),
+        case("bad book, text of 32769 bytes", &SAMPLE[..9], &over, &own),
+        case("empty text", &SAMPLE, b"", &own),
+    ]
+}
