@@ -5,8 +5,12 @@ ghost use lib.ListN.{length};
 use comparing::Compared;
 use libc::STDOUT_FILENO;
 use lines::LINE_ROOM;
-use number::limits::{BOOK_FILE, SHEET_FILE, SHOWN_TEXT, STATES, TABLE_CELLS};
 use number::Refusal;
+use number::limits::BOOK_FILE;
+use number::limits::SHEET_FILE;
+use number::limits::SHOWN_TEXT;
+use number::limits::STATES;
+use number::limits::TABLE_CELLS;
 use table::Counted;
 use vector::layout::WORK_LENGTH;
 
@@ -106,7 +110,14 @@ fn compare_case(book_name: &[u8], sheet_name: &[u8]) {
     let m = read_case(sheet_name, &mut sheet);
     match table::load(&sheet[0..m], &mut labels, &mut targets) {
         Counted::States(count) => {
-            let answer = comparing::compare_book(&book[0..n], count, &labels, &targets, &mut text, &mut work);
+            let answer = comparing::compare_book(
+                &book[0..n],
+                count,
+                &labels,
+                &targets,
+                &mut text,
+                &mut work,
+            );
             say_compared(answer, &text);
         }
         Counted::Refused(r) => say_refused(r),
