@@ -10,7 +10,7 @@ abbrev Inv-loop : tie.InvT-loop
 Inv-loop k₀ k = Unit
 
 abbrev μ-loop : tie.MeasureT-loop
-μ-loop k₀ k = 108 - k
+μ-loop k₀ k = 110 - k
 
 loop-holds : tie.Need-loop-holds Inv-loop μ-loop
 loop-holds c = tt
