@@ -1,23 +1,31 @@
-/* A worked example: a text is cut by a table that is made by hand, and what the library answers is printed.
+/* A worked example: a rule book is built, texts are cut by its table, and the table is kept as a sheet and compared with the book.
    The rules are `1` (rule 0) and `1.1` (rule 1). tools/example builds and runs this, and holds it to examples/cut.out. */
 #include <stdio.h>
 #include <string.h>
 
 #include "lubiranguk.h"
 
-/* The states: 0 is the start, and a byte that fits no rule leads to DEAD. A label is 1 plus the number of a rule, or 0. */
-enum { START, DEAD, ONE, ONE_DOT, ONE_DOT_ONE, COUNT };
+/* Version 1, two rules; each its kind, the number of its nodes, and these, operators after their terms. */
+static const uint8_t book[] = {
+    1, 2,
+    7, 1, 2, '1', '1',
+    8, 5, 2, '1', '1', 2, '.', '.', 3, 2, '1', '1', 3,
+};
 
 static uint8_t labels[LUBI_STATES], targets[LUBI_TARGETS];
+static uint64_t work[LUBI_WORK];
 
-static void make_table(void)
+/* Builds the first bytes of the book, and says how that ended; the number of states. */
+static size_t build(size_t length)
 {
-    memset(targets, DEAD, COUNT * 256);
-    targets[START * 256 + '1'] = ONE;
-    targets[ONE * 256 + '.'] = ONE_DOT;
-    targets[ONE_DOT * 256 + '1'] = ONE_DOT_ONE;
-    labels[ONE] = 1;
-    labels[ONE_DOT_ONE] = 2;
+    size_t answer[LUBI_ANSWER];
+    size_t code = lubi_build(book, length, labels, LUBI_STATES, targets, LUBI_TARGETS, work, LUBI_WORK, answer);
+    if (code != LUBI_GIVEN) {
+        printf("build: refused %zu at %zu\n", code, answer[0]);
+        return 0;
+    }
+    printf("build: %zu states\n", answer[0]);
+    return answer[0];
 }
 
 /* Cuts the text with room for two words at a time, and goes on where the records were full. */
@@ -47,21 +55,12 @@ static void cut(size_t count, const char *text)
         printf("  done\n");
 }
 
-int main(void)
+/* Writes the table as its sheet, and reads that back into fresh areas. */
+static void keep(size_t count)
 {
-    make_table();
-    /* The walk goes on past the first dot and dies at the second: the word ends at the last labelled place, after `1`. */
-    cut(COUNT, "1..");
-    cut(COUNT, "1.11.111");
-    cut(COUNT, "");
-    /* A count that is no table's is refused, whatever the caller meant. */
-    cut(0, "1");
-    cut(LUBI_STATES + 1, "1");
-
-    /* The same table through a sheet: written, and read back into fresh areas. */
     static uint8_t sheet[1024], labels_read[LUBI_STATES], targets_read[LUBI_TARGETS];
     size_t answer[LUBI_ANSWER];
-    size_t code = lubi_write_sheet(COUNT, labels, LUBI_STATES, targets, LUBI_TARGETS, sheet, sizeof sheet, answer);
+    size_t code = lubi_write_sheet(count, labels, LUBI_STATES, targets, LUBI_TARGETS, sheet, sizeof sheet, answer);
     size_t length = answer[0];
     printf("sheet: code %zu, %zu bytes\n", code, length);
     code = lubi_load(sheet, length, labels_read, LUBI_STATES, targets_read, LUBI_TARGETS, answer);
@@ -69,12 +68,62 @@ int main(void)
         memcmp(labels, labels_read, sizeof labels) == 0 && memcmp(targets, targets_read, sizeof targets) == 0 ? "the same" : "not the same");
     code = lubi_load(sheet, length - 1, labels_read, LUBI_STATES, targets_read, LUBI_TARGETS, answer);
     printf("one byte early: refused %zu at %zu\n", code, answer[0]);
+}
 
-    /* Rule books are checked: one rule of one node, the byte 7. */
-    static const uint8_t book[] = {1, 1, 0, 1, 2, 7, 7};
-    code = lubi_check_book(book, sizeof book, answer);
-    printf("book: code %zu, %zu rule, %zu node\n", code, answer[0], answer[1]);
-    code = lubi_check_book(book, 0, answer);
-    printf("no book: refused %zu at %zu\n", code, answer[0]);
+/* Compares the book with the table. */
+static void compare(size_t count)
+{
+    uint8_t text[LUBI_TEXT];
+    size_t answer[LUBI_ANSWER];
+    size_t code = lubi_compare(book, sizeof book, count, labels, LUBI_STATES, targets, LUBI_TARGETS, text, LUBI_TEXT, work, LUBI_WORK, answer);
+    if (code != LUBI_GIVEN)
+        printf("compare: refused %zu at %zu\n", code, answer[0]);
+    else if (answer[0] == LUBI_SAME)
+        printf("compare: same\n");
+    else
+        printf("compare: differs on %.*s: label %zu by the book, %zu by the table\n", (int)answer[1], (const char *)text, answer[2], answer[3]);
+}
+
+/* The same table by hand, its states in another order. A label is 1 plus the number of a rule, or 0. */
+static size_t make_table(void)
+{
+    enum { START, ONE, ONE_DOT, ONE_DOT_ONE, DEAD, COUNT };
+    memset(labels, 0, sizeof labels);
+    memset(targets, DEAD, COUNT * 256);
+    targets[START * 256 + '1'] = ONE;
+    targets[ONE * 256 + '.'] = ONE_DOT;
+    targets[ONE_DOT * 256 + '1'] = ONE_DOT_ONE;
+    labels[ONE] = 1;
+    labels[ONE_DOT_ONE] = 2;
+    return COUNT;
+}
+
+int main(void)
+{
+    size_t answer[LUBI_ANSWER];
+    size_t code = lubi_check_book(book, sizeof book, answer);
+    printf("book: code %zu, %zu rules, %zu nodes\n", code, answer[0], answer[1]);
+    size_t count = build(sizeof book);
+
+    /* The walk goes on past the first dot and dies at the second: the word ends at the last labelled place, after `1`. */
+    cut(count, "1..");
+    cut(count, "1.11.111");
+    cut(count, "");
+    /* A count that is no table's is refused, whatever the caller meant. */
+    cut(0, "1");
+    cut(LUBI_STATES + 1, "1");
+
+    keep(count);
+    compare(count);
+    /* Numbers of states do not matter to a comparison; what the table says of a text does. */
+    count = make_table();
+    compare(count);
+    labels[3] = 1;
+    compare(count);
+    compare(0);
+
+    /* A book that ends one byte early: the table area is left empty. */
+    count = build(sizeof book - 1);
+    cut(count, "1");
     return 0;
 }

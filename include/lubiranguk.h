@@ -6,15 +6,16 @@
      code 1 to 13   the call refused: the code is the refusal's number in the table of numbered refusals (LUBI_SHORT and so on),
                     answer[0] is its place, and the rest is 0.
 
-   WHAT THE CALLER MUST TEST: nothing. No call asks that a count, a place, a text or a table makes sense: each tests what it is given
-   and refuses what it cannot use. What is left to C is what C alone can know:
+   WHAT THE CALLER MUST TEST: nothing, and no wrapper needs to. No call asks that a book, a sheet, a table, a count or a place makes sense,
+   or that an area is long enough: each tests what it is given and refuses what it cannot use. What is left to C is what C alone can know:
      - a pointer with a length points to that many elements (it is not NULL, also where the length is 0), and `answer` to four;
      - an area that a call writes overlaps no other area of that call;
      - nothing else writes these areas while the call runs. The library keeps nothing between calls, so several threads may call it.
 
    AREAS. `labels` has one cell a state and `targets` 256, and they are a table together with a count of states. Where a call fills a
    table, labels has at least LUBI_STATES cells and targets LUBI_TARGETS; where a call reads one, as many as its count asks for.
-   A work area has at least LUBI_WORK cells of 64 bits, and a text area at least LUBI_TEXT bytes. No length is too long. */
+   A work area has at least LUBI_WORK cells of 64 bits, and a text area at least LUBI_TEXT bytes. No length is too long.
+   What a work area holds before a call does not matter; afterwards it is all 0, but after LUBI_ROOM, which changes no area. */
 #ifndef LUBIRANGUK_H
 #define LUBIRANGUK_H
 
@@ -56,10 +57,21 @@ enum {
 /* how a cut ended */
 enum { LUBI_DONE = 0, LUBI_STUCK = 1, LUBI_FULL = 2 };
 
+/* how a comparison ended */
+enum { LUBI_SAME = 0, LUBI_DIFFERS = 1 };
+
 /* Checks a rule book.
    answer: the number of rules, the number of nodes of all rules together.
    Refuses what is wrong in the book, at the byte where it is wrong: 1 to 5. */
 size_t lubi_check_book(const uint8_t *book, size_t book_length, size_t answer[LUBI_ANSWER]);
+
+/* Builds a rule book's table.
+   answer: the number of states. Cells of labels and targets past those states are 0, to the end of the lent areas.
+   Refuses LUBI_ROOM first, where labels, targets or the work area is below full size, and then changes none; else what is wrong in the
+   book, at the byte where it is wrong (1 to 5), then LUBI_LONG, LUBI_TOO_MANY_STATES or LUBI_POOL, at the state that was being left,
+   and then leaves labels and targets all 0. */
+size_t lubi_build(const uint8_t *book, size_t book_length, uint8_t *labels, size_t labels_length, uint8_t *targets, size_t targets_length,
+    uint64_t *work, size_t work_length, size_t answer[LUBI_ANSWER]);
 
 /* Reads a sheet into a table.
    answer: the number of states. Cells of labels and targets past those states are 0, to the end of the lent areas.
@@ -82,6 +94,17 @@ size_t lubi_write_sheet(size_t count, const uint8_t *labels, size_t labels_lengt
    Refuses LUBI_LOADED, where the table is not well formed; the records are unchanged. */
 size_t lubi_cut_from(size_t count, const uint8_t *labels, size_t labels_length, const uint8_t *targets, size_t targets_length,
     const uint8_t *text, size_t text_length, size_t at, size_t *records, size_t records_length, size_t answer[LUBI_ANSWER]);
+
+/* Compares a rule book with a table on every text there is.
+   answer: LUBI_SAME; or LUBI_DIFFERS, the length of the shortest text on which they differ, the book's label and the table's for it
+   (1 plus a rule's number, or 0). Of the texts of that length it is the lowest. It stands at the front of text_area, and the rest of
+   that area is 0; after LUBI_SAME all of it is 0.
+   Refuses LUBI_ROOM first, where the text area or the work area is below full size, and then changes neither; else LUBI_LOADED, where
+   the table is not well formed, then what is wrong in the book, at the byte where it is wrong (1 to 5), then LUBI_LONG, LUBI_PAIRS or
+   LUBI_POOL, at the pair that was being left, and then leaves the text area all 0. */
+size_t lubi_compare(const uint8_t *book, size_t book_length, size_t count, const uint8_t *labels, size_t labels_length,
+    const uint8_t *targets, size_t targets_length, uint8_t *text_area, size_t text_length, uint64_t *work, size_t work_length,
+    size_t answer[LUBI_ANSWER]);
 
 #ifdef __cplusplus
 }

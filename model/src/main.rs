@@ -19,6 +19,7 @@ mod refusal;
 mod selftest;
 mod sheet;
 mod sheets;
+mod stored;
 mod term;
 mod worked;
 
@@ -28,7 +29,7 @@ use std::path::Path;
 use std::process::ExitCode;
 
 const USAGE: &str =
-    "model cut DIR | compare DIR | sheet DIR | cases N SEED OUT | limits | selftest";
+    "model cut DIR | compare DIR | sheet DIR | cases N SEED OUT | stored DIR | limits | selftest";
 
 fn main() -> ExitCode {
     let arguments: Vec<String> = std::env::args().skip(1).collect();
@@ -66,6 +67,7 @@ fn run(words: &[&str]) -> io::Result<bool> {
             };
             cases::put_cases(count, seed, Path::new(folder))?;
         }
+        ["stored", folder] => stored::put_stored(Path::new(folder))?,
         ["limits"] => selftest::print_limits(),
         ["selftest"] => return Ok(selftest::run()),
         _ => return Err(io::Error::other(USAGE)),

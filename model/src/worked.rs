@@ -33,7 +33,7 @@ pub fn sample_table() -> Table {
     build(&sample_book()).expect("the sample book builds")
 }
 
-fn case(name: &str, book: &[u8], text: &[u8], sheet: &[u8]) -> Case {
+pub fn case(name: &str, book: &[u8], text: &[u8], sheet: &[u8]) -> Case {
     Case {
         name: name.to_string(),
         book: File::Bytes(book.to_vec()),
@@ -44,29 +44,67 @@ fn case(name: &str, book: &[u8], text: &[u8], sheet: &[u8]) -> Case {
 
 /// Every fixed case; the generator only chooses texts and tables that do not matter.
 pub fn fixed(rng: &mut Rng) -> Vec<Case> {
-    let mut cases = sample_cases();
-    cases.extend(file_cases());
+    [
+        sample_cases(),
+        file_cases(),
+        limit_cases(rng),
+        meeting_cases(rng),
+        book_fault_cases(),
+        sheet_fault_cases(),
+        state_count_cases(),
+        sheet_length_cases(),
+    ]
+    .concat()
+}
+
+/// Books that just meet or pass a limit, against their own sheets if they build.
+pub fn limit_cases(rng: &mut Rng) -> Vec<Case> {
+    let mut cases = Vec::new();
     for edge in all() {
         let text = joined_text(rng, &edge.book, 400);
         let table = build(&edge.book).unwrap_or_else(|_| random(rng, 3));
         cases.push(case(edge.name, &edge.book.write(), &text, &sheet::write(&table)));
     }
+    cases
+}
+
+/// Comparisons that just meet or pass a limit.
+pub fn meeting_cases(rng: &mut Rng) -> Vec<Case> {
+    let mut cases = Vec::new();
     for meeting in meetings() {
         let text = joined_text(rng, &meeting.book, 400);
         let sheet = sheet::write(&meeting.table);
         cases.push(case(meeting.name, &meeting.book.write(), &text, &sheet));
     }
+    cases
+}
+
+/// The books written by hand.
+pub fn book_fault_cases() -> Vec<Case> {
     let own = sheet::write(&sample_table());
-    for (bytes, _, _) in faults::BOOKS {
-        cases.push(case("book with a fault", bytes, TEXT, &own));
-    }
-    for (bytes, _, _) in faults::SHEETS {
-        cases.push(case("sheet with a fault", &SAMPLE, TEXT, bytes));
-    }
+    let faulty = |bytes: &[u8]| case("book with a fault", bytes, TEXT, &own);
+    faults::BOOKS.iter().map(|(bytes, _, _)| faulty(bytes)).collect()
+}
+
+/// The sheets written by hand.
+pub fn sheet_fault_cases() -> Vec<Case> {
+    let faulty = |bytes: &[u8]| case("sheet with a fault", &SAMPLE, TEXT, bytes);
+    faults::SHEETS.iter().map(|(bytes, _, _)| faulty(bytes)).collect()
+}
+
+/// Sheets with as many states as there may be, and one more.
+pub fn state_count_cases() -> Vec<Case> {
+    let mut cases = Vec::new();
     for (name, count) in [("128 states", 128), ("129 states", 129)] {
         let table = Table { labels: vec![0; count], targets: vec![0; 256 * count] };
         cases.push(case(name, &SAMPLE, TEXT, &sheet::write(&table)));
     }
+    cases
+}
+
+/// Sheets at the greatest size of a file, one byte longer, and the longest there is.
+fn sheet_length_cases() -> Vec<Case> {
+    let mut cases = Vec::new();
     for (name, runs, first) in
         [("65536 bytes", 63, 4), ("65537 bytes", 63, 130), ("65923 bytes", 256, 1)]
     {
@@ -76,7 +114,7 @@ pub fn fixed(rng: &mut Rng) -> Vec<Case> {
 }
 
 /// The sample book, whole and in parts, against its own sheet and a merged one.
-fn sample_cases() -> Vec<Case> {
+pub fn sample_cases() -> Vec<Case> {
     let table = sample_table();
     let own = sheet::write(&table);
     let mut cases = vec![case("sample", &SAMPLE, TEXT, &own)];

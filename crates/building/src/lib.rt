@@ -2,11 +2,13 @@
 // The walk over vectors goes row by row, and a row run by run: one derivative for each run of bytes that no range tells apart.
 ghost use mathlib.Core.Path.{_≡_};
 ghost use Prim.Native.Nat.{_<_, _≤_};
-ghost use lib.ListN.{length, replicate};
+ghost use lib.ListN.{length};
 ghost use Rattle.number.specs.Limits.{states};
 ghost use Rattle.number.specs.Lists.{written};
 ghost use Rattle.walk.specs.Walk.{rows};
+ghost use Rattle.pool.specs.Index.{Indexed};
 ghost use Rattle.vector.specs.Memory.{itemsOf, heldOf};
+ghost use Rattle.steps.specs.Step.{Follows};
 ghost use Rattle.start.specs.Start.{rulesIn, Opened};
 ghost use Rattle.building.specs.Build.{alone, builtOf, buildRules};
 ghost use Rattle.building.specs.Calls.{buildBook};
@@ -16,6 +18,7 @@ use number::Refusal;
 use number::limits::BYTES;
 use number::limits::STATES;
 use number::limits::TABLE_CELLS;
+use pool::INDEX_CELLS;
 use steps::Stepped;
 use table::Counted;
 use table::reading::fill;
@@ -23,6 +26,7 @@ use vector::layout::WORK_LENGTH;
 
 // The row of item `i` goes into its 256 targets, run by run; the answer tells what is held then, and no number.
 fn fill_row(
+    index: &mut [usize],
     cells: &mut [u64],
     top: usize,
     count: usize,
@@ -32,7 +36,9 @@ fn fill_row(
 ) -> Stepped
     requires { ⌜ Fillable (now cells) n top count (now targets) ⌝ }
     requires { ⌜ i < count ⌝ }
+    requires { ⌜ Indexed (now index) (now cells) top ⌝ }
     ensures { λ r. ⌜ RowFilled (now (cells .entry)) n top count i (now (targets .entry)) (now (cells .exit)) (now (targets .exit)) r ⌝ }
+    ensures { λ r. ⌜ Follows (now (index .exit)) (now (cells .exit)) r ⌝ }
 {
     let base = i * BYTES;
     let mut next = top;
@@ -40,7 +46,18 @@ fn fill_row(
     let mut byte: usize = 0;
     while byte < BYTES {
         let edge = vector::edge_of(cells, vector::load(cells, i), n, byte);
-        let made = steps::step(cells, next, held, n, i, byte, 0, STATES, Refusal::States(i));
+        let made = steps::step(
+            index,
+            cells,
+            next,
+            held,
+            n,
+            i,
+            byte,
+            0,
+            STATES,
+            Refusal::States(i),
+        );
         let Stepped::Reached(above, more, number) = made else {
             return made;
         };
@@ -53,15 +70,23 @@ fn fill_row(
 }
 
 // The rows of all items, those found on the way too; the answer is as above.
-fn fill_rows(cells: &mut [u64], top: usize, count: usize, n: usize, targets: &mut [u8]) -> Stepped
+fn fill_rows(
+    index: &mut [usize],
+    cells: &mut [u64],
+    top: usize,
+    count: usize,
+    n: usize,
+    targets: &mut [u8],
+) -> Stepped
     requires { ⌜ Fillable (now cells) n top count (now targets) ⌝ }
+    requires { ⌜ Indexed (now index) (now cells) top ⌝ }
     ensures { λ r. ⌜ RowsFilled (now (cells .entry)) n top count (now (targets .entry)) (now (cells .exit)) (now (targets .exit)) r ⌝ }
 {
     let mut next = top;
     let mut held = count;
     let mut i: usize = 0;
     while i < held {
-        let made = fill_row(cells, next, held, n, i, targets);
+        let made = fill_row(index, cells, next, held, n, i, targets);
         let Stepped::Reached(above, more, _) = made else {
             return made;
         };
@@ -86,6 +111,7 @@ fn fill_labels(cells: &[u64], n: usize, count: usize, labels: &mut [u8])
 
 // The table of what is held and of all that is found from there.
 fn fill_table(
+    index: &mut [usize],
     cells: &mut [u64],
     top: usize,
     count: usize,
@@ -95,10 +121,11 @@ fn fill_table(
 ) -> Counted
     requires { ⌜ Fillable (now cells) n top count (now targets) ⌝ }
     requires { ⌜ states ≤ length (now labels) ⌝ }
+    requires { ⌜ Indexed (now index) (now cells) top ⌝ }
     ensures { λ r. ⌜ Tabled (builtOf (rows alone states 0 (heldOf (now (cells .entry)) n top count)))
         (now (labels .exit)) (now (targets .exit)) r ⌝ }
 {
-    let made = fill_rows(cells, top, count, n, targets);
+    let made = fill_rows(index, cells, top, count, n, targets);
     match made {
         Stepped::Stopped(r) => Counted::Refused(r),
         Stepped::Reached(_, held, _) => {
@@ -120,7 +147,8 @@ fn build_rules(
     requires { ⌜ Roomy (now labels) (now targets) (now cells) ⌝ }
     ensures { λ r. ⌜ Tabled (buildRules (rulesIn (now (book .entry)))) (now (labels .exit)) (now (targets .exit)) r ⌝ }
 {
-    let first = start::first_vector(book, n, cells);
+    let mut index = [0usize; INDEX_CELLS];
+    let first = start::first_vector(book, n, &mut index, cells);
     if first.long {
         return Counted::Refused(Refusal::Long(0));
     }
@@ -129,7 +157,9 @@ fn build_rules(
     let begun = steps::hold_first(cells, at, n, v);
     match begun {
         Stepped::Stopped(r) => Counted::Refused(r),
-        Stepped::Reached(top, count, _) => fill_table(cells, top, count, n, labels, targets),
+        Stepped::Reached(top, count, _) => {
+            fill_table(&mut index, cells, top, count, n, labels, targets)
+        }
     }
 }
 
@@ -142,17 +172,6 @@ fn build_book(book: &[u8], cells: &mut [u64], labels: &mut [u8], targets: &mut [
     match checked {
         Checked::Refused(r) => Counted::Refused(r),
         Checked::Counts(n, _) => build_rules(book, n, cells, labels, targets),
-    }
-}
-
-// The work area is all 0.
-fn clear(cells: &mut [u64])
-    ensures { λ _. ⌜ now (cells .exit) ≡ replicate (length (now (cells .entry))) 0 ⌝ }
-{
-    let mut i: usize = 0;
-    while i < cells.len() {
-        cells[i] = 0;
-        i += 1;
     }
 }
 
@@ -174,7 +193,7 @@ pub fn build(book: &[u8], labels: &mut [u8], targets: &mut [u8], work: &mut [u64
         return Counted::Refused(Refusal::Room);
     }
     let built = build_book(book, &mut work[0..WORK_LENGTH], labels, targets);
-    clear(work);
+    vector::clear(work);
     match built {
         Counted::States(count) => {
             fill(labels, count, labels_end, 0);

@@ -6,10 +6,8 @@ use mathlib.Core.Bool.{Bool, true, false, cond}
 use mathlib.Core.List.{List, [], _++_, append-nil}
 use native.Mathlib.Omega.{arith}
 use native.Mathlib.Nat.{sub-zero}
-use native.Mathlib.Numerals.{add-one}
 use borrow.Author.Tests.{lt-ltb, le-ltb}
-use lib.ListN.{length, take, drop, set, replicate, length-replicate, replicate-append-replicate, drop-of-length-le}
-use lib.Seq.{take-all, take-suc-set}
+use lib.ListN.{length, take, drop, replicate, length-replicate, drop-of-length-le}
 use Rattle.number.specs.declared.Refusal.{Refusal}
 use Rattle.number.specs.declared.Refusal.the-variants.{Long, Room, Loaded}
 use Rattle.number.specs.Limits.{bytes, pairs, shownText, workCells}
@@ -229,13 +227,3 @@ module _ (file : List ℕ) (m : ℕ) (labels targets area work : List ℕ) where
           text = a .text ∙ told-text area area₁ work e o ∙ ap (λ (c : Comparison). c .text) (sym as-told);
           work-after = g ∙ ap (λ (l : ℕ). replicate l 0) f ∙ sym (told-work area work o) ∙ ap (λ (c : Comparison). c .work) (sym as-told);
         }
-
--- ---- the work area, cell by cell
-
-pub clear-more : (s : List ℕ) (i : ℕ) → i < length s → take i s ≡ replicate i 0 → take (i + 1) (set s i 0) ≡ replicate (i + 1) 0
-clear-more s i h e = rw (add-one, take-suc-set s i 0, e) (replicate-append-replicate i 1 0 ∙ ap (λ (k : ℕ). replicate k 0) (add-one i))
-
-pub clear-all : (s₀ s : List ℕ) → length s ≡ length s₀ → (i : ℕ) → length s₀ ≤ i → take i s ≡ replicate i 0 → i ≤ length s₀ → s ≡ replicate (length s₀) 0
-clear-all s₀ s e i h f g =
-    let m : i ≡ length s₀ = omega arith in
-    sym (take-all i s (omega arith)) ∙ f ∙ ap (λ (k : ℕ). replicate k 0) m

@@ -1,13 +1,14 @@
 // Comparing a book with a table in lent memory: the same, or the shortest, lowest text on which they differ.
 // The walk is the build's, beside the table; it is finished before an answer is given.
-ghost use mathlib.Core.Path.{_≡_};
 ghost use Prim.Native.Nat.{_+_, _<_, _≤_};
-ghost use lib.ListN.{length, replicate};
+ghost use lib.ListN.{length};
 ghost use Rattle.number.specs.Limits.{bytes, pairs, workCells};
 ghost use Rattle.table.specs.Promises.{Writes};
 ghost use Rattle.walk.specs.Walk.{row, rows, walkFrom};
+ghost use Rattle.pool.specs.Index.{Indexed};
 ghost use Rattle.vector.specs.Layout.{workLength};
 ghost use Rattle.vector.specs.Memory.{textOf, heldOf};
+ghost use Rattle.steps.specs.Step.{Follows};
 ghost use Rattle.start.specs.Start.{rulesIn, Opened};
 ghost use Rattle.comparing.specs.Promises.{byTargets, HasRow, Closed, Beside, RunTo, Ends, Legible, Sees, Traced};
 ghost use Rattle.comparing.specs.Promises.{Blank, Answers, Shows, Comparable, Rules, loadedOf, Compares};
@@ -16,6 +17,7 @@ use number::Refusal;
 use number::limits::BYTES;
 use number::limits::PAIRS;
 use number::limits::SHOWN_TEXT;
+use pool::INDEX_CELLS;
 use steps::Stepped;
 use vector::layout::BYTES_AT;
 use vector::layout::PARENTS_AT;
@@ -54,6 +56,7 @@ fn run_end(targets: &[u8], from: usize, end: usize) -> usize
 
 // The row of item `i`: one step for each run of bytes that no range tells apart and that lead the table to one state.
 fn walk_row(
+    index: &mut [usize],
     cells: &mut [u64],
     top: usize,
     count: usize,
@@ -64,8 +67,10 @@ fn walk_row(
     requires { ⌜ Beside (now cells) n top count (now targets) ⌝ }
     requires { ⌜ Closed (now targets) ⌝ }
     requires { ⌜ i < count ⌝ }
+    requires { ⌜ Indexed (now index) (now cells) top ⌝ }
     ensures { λ r. ⌜ Ends n (now (targets .entry)) (now (cells .exit))
         (row (byTargets (now (targets .entry))) i bytes 0 (heldOf (now (cells .entry)) n top count)) r ⌝ }
+    ensures { λ r. ⌜ Follows (now (index .exit)) (now (cells .exit)) r ⌝ }
 {
     let base = cells[SHEETS_AT + i] as usize * BYTES;
     let mut next = top;
@@ -74,7 +79,18 @@ fn walk_row(
     while c < BYTES {
         let at = base + c;
         let to = targets[at] as usize;
-        let went = steps::step(cells, next, held, n, i, c, to, PAIRS, Refusal::Pairs(i));
+        let went = steps::step(
+            index,
+            cells,
+            next,
+            held,
+            n,
+            i,
+            c,
+            to,
+            PAIRS,
+            Refusal::Pairs(i),
+        );
         let Stepped::Reached(above, more, _) = went else {
             return went;
         };
@@ -87,9 +103,17 @@ fn walk_row(
 }
 
 // The rows of all items, those found on the way too.
-fn walk_rows(cells: &mut [u64], top: usize, count: usize, n: usize, targets: &[u8]) -> Stepped
+fn walk_rows(
+    index: &mut [usize],
+    cells: &mut [u64],
+    top: usize,
+    count: usize,
+    n: usize,
+    targets: &[u8],
+) -> Stepped
     requires { ⌜ Beside (now cells) n top count (now targets) ⌝ }
     requires { ⌜ Closed (now targets) ⌝ }
+    requires { ⌜ Indexed (now index) (now cells) top ⌝ }
     ensures { λ r. ⌜ Ends n (now (targets .entry)) (now (cells .exit))
         (rows (byTargets (now (targets .entry))) pairs 0 (heldOf (now (cells .entry)) n top count)) r ⌝ }
 {
@@ -97,7 +121,7 @@ fn walk_rows(cells: &mut [u64], top: usize, count: usize, n: usize, targets: &[u
     let mut held = count;
     let mut i: usize = 0;
     while i < held {
-        let went = walk_row(cells, next, held, n, i, targets);
+        let went = walk_row(index, cells, next, held, n, i, targets);
         let Stepped::Reached(above, more, _) = went else {
             return went;
         };
@@ -116,7 +140,8 @@ fn walk_from<'a>(book: &'a [u8], n: usize, cells: &mut [u64], targets: &'a [u8])
     ensures { λ r. ⌜ Ends n (now (targets .entry)) (now (cells .exit))
         (walkFrom (byTargets (now (targets .entry))) (rulesIn (now (book .entry)))) r ⌝ }
 {
-    let first = start::first_vector(book, n, cells);
+    let mut index = [0usize; INDEX_CELLS];
+    let first = start::first_vector(book, n, &mut index, cells);
     if first.long {
         return Stepped::Stopped(Refusal::Long(0));
     }
@@ -124,7 +149,7 @@ fn walk_from<'a>(book: &'a [u8], n: usize, cells: &mut [u64], targets: &'a [u8])
     let Stepped::Reached(top, count, _) = begun else {
         return begun;
     };
-    walk_rows(cells, top, count, n, targets)
+    walk_rows(&mut index, cells, top, count, n, targets)
 }
 
 // The first of the items whose labels differ, with both labels.
@@ -227,17 +252,6 @@ fn compare_loaded<'a>(
     }
 }
 
-// Makes every cell of the work area 0.
-fn clear(work: &mut [u64])
-    ensures { λ _. ⌜ now (work .exit) ≡ replicate (length (now (work .entry))) 0 ⌝ }
-{
-    let mut i: usize = 0;
-    while i < work.len() {
-        work[i] = 0;
-        i += 1;
-    }
-}
-
 // A book's bytes against a table in lent memory: the answer, the shown text at the front of the text area, and 0 in all else that was lent.
 pub fn compare_book<'a>(
     book: &'a [u8],
@@ -266,6 +280,6 @@ pub fn compare_book<'a>(
         text_area,
         &mut work[0..WORK_LENGTH],
     );
-    clear(work);
+    vector::clear(work);
     answer
 }

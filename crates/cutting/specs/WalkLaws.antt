@@ -2,11 +2,11 @@
 -- The code holds the best word as the place after it and its label; no label stands for no word.
 use Prim.Native.Nat.{ℕ, zero, suc, _+_, _-_, _*_, _<_, _≤_}
 use native.Mathlib.Omega.{arith}
-use mathlib.Core.Path.{_≡_, refl, sym, ap, _∙_}
+use mathlib.Core.Path.{_≡_, refl, sym, ap, subst, _∙_}
 use mathlib.Core.Bool.{true}
 use mathlib.Core.List.{List}
 use lib.ListN.{length, getD, drop, length-take, length-drop, drop-of-length-le}
-use lib.Seq.{getD-take}
+use lib.Seq.{getD-take, getD-drop}
 use Rattle.number.specs.Limits.{bytes}
 use Rattle.number.specs.Lists.{drop-one}
 use Rattle.meaning.specs.Re.{Text}
@@ -17,6 +17,8 @@ use Rattle.table.specs.Formed.{Formed}
 use Rattle.table.specs.SheetFormed.{well-formed}
 use Rattle.cutting.specs.Steps.{stepIn, labelAt, firstBy}
 use Rattle.cutting.specs.CutLaws.{first-by}
+use Rattle.cutting.specs.Dead.{deadOf}
+use Rattle.cutting.specs.DeadLaws.{Dead, dead-of, scan-dead}
 use Rattle.cutting.specs.Turns.{Walkable}
 
 -- a well formed table can be walked
@@ -42,7 +44,7 @@ better-new : (n label : ℕ) (best : Found) → (label ≡ 0 → ⊥) → better
 better-new n zero best h = absurd (h refl)
 better-new n (suc r) best h = refl
 
-better-word : (n label : ℕ) → (label ≡ 0 → ⊥) → Word n (label - 1) ≡ better n label Stuck
+pub better-word : (n label : ℕ) → (label ≡ 0 → ⊥) → Word n (label - 1) ≡ better n label Stuck
 better-word n zero h = absurd (h refl)
 better-word n (suc r) h = let e : suc r - 1 ≡ r = omega arith in ap (Word n) e
 
@@ -107,13 +109,20 @@ module _ (count : ℕ) (labels targets : List ℕ) (text : Text) (at : ℕ) wher
           whole = rw (d, ← better-new (suc (i - at)) (getD labels s 0) (better (best - at) label Stuck) n) (one-more s e);
         }
 
-  module _ {state i best label : ℕ} (a : Along state i best label) (h : length text ≤ i) where
-    walked : better (best - at) label Stuck ≡ firstBy (lent count labels targets) (drop at text)
-    unfolding scan
-    walked = rw (drop-of-length-le text h) at (a .whole)
+    -- in the dead state no label can follow
+    pub along-dead : ((j : ℕ) → getD text j 0 < bytes) → getD targets (state * bytes + getD text i 0) 0 ≡ deadOf count labels targets
+        → better (best - at) label Stuck ≡ firstBy (lent count labels targets) (drop at text)
+    along-dead fits e =
+        let s = getD targets (state * bytes + getD text i 0) 0 in
+        let d : Dead labels targets s = subst (Dead labels targets) (sym e) (dead-of labels targets count (omega (arith, next-in, e))) in
+        let stays : (c : ℕ) → c < bytes → stepIn (lent count labels targets) s c ≡ s =
+        λ c k. getD-take (count * bytes) targets (s * bytes + c) 0 (omega (arith, next-in)) ∙ d .stays c k in
+        let unmarked : labelAt (lent count labels targets) s ≡ 0 = marked s next-in ∙ d .unlabelled in
+        let rest : (j : ℕ) → getD (drop (i + 1) text) j 0 < bytes = λ j. rw (getD-drop (i + 1) text j 0) (fits (i + 1 + j)) in
+        sym (scan-dead (stepIn (lent count labels targets)) (labelAt (lent count labels targets)) s stays unmarked (drop (i + 1) text) rest (suc (i - at))
+        (better (best - at) label Stuck)) ∙ rw (d .unlabelled) at (one-more s refl)
 
-    pub along-none : label ≡ 0 → Stuck ≡ firstBy (lent count labels targets) (drop at text)
-    along-none z = rw z at walked
-
-    pub along-word : (label ≡ 0 → ⊥) → Word (best - at) (label - 1) ≡ firstBy (lent count labels targets) (drop at text)
-    along-word n = better-word (best - at) label n ∙ walked
+  pub along-over : {state i best label : ℕ} → Along state i best label → length text ≤ i
+      → better (best - at) label Stuck ≡ firstBy (lent count labels targets) (drop at text)
+  unfolding scan
+  along-over a h = rw (drop-of-length-le text h) at (a .whole)

@@ -1,11 +1,15 @@
 // Cutting a text into words by a table in lent memory.
 // Words go into a lent list of records or into plain cells; what a cut answers and leaves is specs/Calls.antt's and specs/Flat.antt's.
 ghost use mathlib.Core.Path.{_≡_};
-ghost use Prim.Native.Nat.{_<_};
+ghost use Prim.Native.Nat.{_<_, _≤_, _+_, _*_, _-_};
 ghost use lib.ListN.{length, drop, set};
+ghost use Rattle.number.specs.Limits.{bytes};
+ghost use Rattle.meaning.specs.Words.{better};
+ghost use Rattle.meaning.specs.Words.Found.{Stuck};
 ghost use Rattle.table.specs.Table.{lent};
 ghost use Rattle.cutting.specs.Steps.{firstBy};
-ghost use Rattle.cutting.specs.Turns.{Walkable, next, halted, stepOf, firstStepOf};
+ghost use Rattle.cutting.specs.Dead.{dead, deadOf};
+ghost use Rattle.cutting.specs.Turns.{Walkable, Ready, next, halted, stepOf, firstStepOf};
 ghost use Rattle.cutting.specs.Promises.{CutsInto, CutsWords};
 use number::Refusal;
 use number::limits::BYTES;
@@ -34,23 +38,75 @@ pub enum Next {
     None,
 }
 
+// Where a cut goes on: the place in the text, and the table's dead state, in which the walk for a word stops.
+pub struct Place {
+    pub at: usize,
+    pub dead: usize,
+}
+
 // One step of a cut: a word to store and the place after it, or the cut's answer.
 pub struct Step {
     pub go: bool,
     pub word: Word,
-    pub next: usize,
+    pub next: Place,
     pub end: Ended,
 }
 
-// Walks the text once from a place to its end and keeps the last labelled place.
+// A state has no label, and no byte leads out of it.
+fn is_dead<'a>(labels: &'a [u8], targets: &'a [u8], state: usize) -> bool
+    requires { ⌜ (state < length (now labels)) × (state * bytes + bytes ≤ length (now targets)) ⌝ }
+    ensures { λ r. ⌜ r ≡ dead (now (labels .entry)) (now (targets .entry)) state ⌝ }
+{
+    if labels[state] != 0 {
+        return false;
+    }
+    let mut c: usize = 0;
+    while c < BYTES {
+        if targets[state * BYTES + c] as usize != state {
+            return false;
+        }
+        c += 1;
+    }
+    true
+}
+
+// The first dead state, or the count of states where there is none.
+fn dead_state<'a>(count: usize, labels: &'a [u8], targets: &'a [u8]) -> usize
+    requires { ⌜ Walkable count (now labels) (now targets) ⌝ }
+    ensures { λ r. ⌜ r ≡ deadOf count (now (labels .entry)) (now (targets .entry)) ⌝ }
+{
+    let mut s: usize = 0;
+    while s < count {
+        if is_dead(labels, targets, s) {
+            return s;
+        }
+        s += 1;
+    }
+    count
+}
+
+// The word that ends before `best`, if a label was met.
+fn best_word(at: usize, best: usize, label: usize) -> Next
+    requires { ⌜ at ≤ best ⌝ }
+    ensures { λ r. ⌜ next r ≡ better (best - at) label Stuck ⌝ }
+{
+    if label == 0 {
+        return Next::None;
+    }
+    Next::Word(best - at, label - 1)
+}
+
+// Walks the text once from a place on and keeps the last labelled place.
+// No label can follow the dead state: the walk stops there, so that a word costs its own length and what is read past it.
 fn next_word<'a>(
     count: usize,
     labels: &'a [u8],
     targets: &'a [u8],
     text: &'a [u8],
     at: usize,
+    dead: usize,
 ) -> Next
-    requires { ⌜ Walkable count (now labels) (now targets) ⌝ }
+    requires { ⌜ Ready count (now labels) (now targets) dead ⌝ }
     ensures { λ r. ⌜ next r ≡ firstBy (lent count (now (labels .entry)) (now (targets .entry))) (drop at (now (text .entry))) ⌝ }
 {
     let mut state: usize = 0;
@@ -59,6 +115,9 @@ fn next_word<'a>(
     let mut label: usize = 0;
     while i < text.len() {
         state = targets[state * BYTES + text[i] as usize] as usize;
+        if state == dead {
+            return best_word(at, best, label);
+        }
         i += 1;
         let l = labels[state] as usize;
         if l != 0 {
@@ -66,24 +125,21 @@ fn next_word<'a>(
             label = l;
         }
     }
-    if label == 0 {
-        return Next::None;
-    }
-    Next::Word(best - at, label - 1)
+    best_word(at, best, label)
 }
 
 // A step that stops a cut.
-fn halt(at: usize, answer: Ended) -> Step
-    ensures { λ r. ⌜ r ≡ halted at answer ⌝ }
+fn halt(place: Place, answer: Ended) -> Step
+    ensures { λ r. ⌜ r ≡ halted place answer ⌝ }
 {
     Step {
         go: false,
         word: Word {
-            start: at,
+            start: place.at,
             len: 0,
             rule: 0,
         },
-        next: at,
+        next: place,
         end: answer,
     }
 }
@@ -94,20 +150,22 @@ fn next_step<'a>(
     labels: &'a [u8],
     targets: &'a [u8],
     text: &'a [u8],
-    at: usize,
+    place: Place,
     k: usize,
     room: usize,
 ) -> Step
-    requires { ⌜ Walkable count (now labels) (now targets) ⌝ }
-    ensures { λ r. ⌜ r ≡ stepOf (lent count (now (labels .entry)) (now (targets .entry))) (now (text .entry)) at k room ⌝ }
+    requires { ⌜ Ready count (now labels) (now targets) (place .dead) ⌝ }
+    ensures { λ r. ⌜ r ≡ stepOf (lent count (now (labels .entry)) (now (targets .entry))) (now (text .entry)) place k room ⌝ }
 {
+    let at = place.at;
+    let dead = place.dead;
     if text.len() <= at {
-        return halt(at, Ended::Done(k));
+        return halt(place, Ended::Done(k));
     }
-    match next_word(count, labels, targets, text, at) {
+    match next_word(count, labels, targets, text, at, dead) {
         Next::Word(len, rule) => {
             if room <= k {
-                return halt(at, Ended::Full(k, at));
+                return halt(place, Ended::Full(k, at));
             }
             Step {
                 go: true,
@@ -116,15 +174,18 @@ fn next_step<'a>(
                     len: len,
                     rule: rule,
                 },
-                next: at + len,
+                next: Place {
+                    at: at + len,
+                    dead: dead,
+                },
                 end: Ended::Done(k),
             }
         }
-        Next::None => halt(at, Ended::Stuck(k, at)),
+        Next::None => halt(place, Ended::Stuck(k, at)),
     }
 }
 
-// The first step of a cut, which tests the lent table once for all that follow.
+// The first step of a cut, which tests the lent table and finds its dead state once for all that follow.
 fn first_step<'a>(
     count: usize,
     labels: &'a [u8],
@@ -136,9 +197,15 @@ fn first_step<'a>(
     ensures { λ r. ⌜ r ≡ firstStepOf count (now (labels .entry)) (now (targets .entry)) (now (text .entry)) at room ⌝ }
 {
     if table::well_formed(count, labels, targets) {
-        return next_step(count, labels, targets, text, at, 0, room);
+        let dead = dead_state(count, labels, targets);
+        let place = Place { at: at, dead: dead };
+        return next_step(count, labels, targets, text, place, 0, room);
     }
-    halt(at, Ended::Refused(Refusal::Loaded))
+    let place = Place {
+        at: at,
+        dead: count,
+    };
+    halt(place, Ended::Refused(Refusal::Loaded))
 }
 
 // The words from a place on go into cells, three for each.

@@ -10,8 +10,10 @@ use Rattle.book.specs.Calls.{Size}
 use Rattle.cutting.specs.Cut.{Ending}
 use Rattle.cutting.specs.Cut.Ending.{Done, StuckAt, FullAt}
 use Rattle.cutting.specs.Calls.{Report}
-use Rattle.library.specs.Packed.{packed, toldCount, toldSize, toldReport}
-use Rattle.library.specs.Unpacked.{unpacked, countIn, sizeIn, reportIn}
+use Rattle.comparing.specs.Calls.{Told}
+use Rattle.comparing.specs.Calls.Told.{same, differs}
+use Rattle.library.specs.Packed.{packed, toldCount, toldSize, toldReport, toldCompared}
+use Rattle.library.specs.Unpacked.{unpacked, countIn, sizeIn, reportIn, comparedIn}
 
 -- for an answer of any kind whose numbers can be read back
 module _ {A : Type 0} (told : A → List ℕ) (read : List ℕ → A) (back : (x : A) → read (told x) ≡ x) where
@@ -36,6 +38,10 @@ ending-back Done n = refl
 ending-back (StuckAt at) n = refl
 ending-back (FullAt at) n = refl
 
+compared-back : (x : Told) → comparedIn (toldCompared x) ≡ x
+compared-back same = refl
+compared-back (differs n book table) = refl
+
 pub the-count-back : (x : Outcome ℕ) → unpacked countIn (packed toldCount x) ≡ x
 the-count-back = packed-back toldCount countIn (λ n. refl)
 
@@ -44,3 +50,6 @@ the-size-back = packed-back toldSize sizeIn (λ s. refl)
 
 pub the-report-back : (x : Outcome Report) → unpacked reportIn (packed toldReport x) ≡ x
 the-report-back = packed-back toldReport reportIn (λ r. ending-back (r .ending) (r .count))
+
+pub the-comparison-back : (x : Outcome Told) → unpacked comparedIn (packed toldCompared x) ≡ x
+the-comparison-back = packed-back toldCompared comparedIn compared-back

@@ -8,6 +8,8 @@ use Rattle.book.specs.Calls.{Size}
 use Rattle.cutting.specs.Cut.{Ending}
 use Rattle.cutting.specs.Cut.Ending.{Done, StuckAt, FullAt}
 use Rattle.cutting.specs.Calls.{Report}
+use Rattle.comparing.specs.Calls.{Told}
+use Rattle.comparing.specs.Calls.Told.{same, differs}
 
 -- what the call returns, and the four cells as it leaves them
 pub record Packed : Type 0 where
@@ -41,3 +43,8 @@ toldEnding (FullAt at) n = four 2 n at 0
 
 abbrev pub toldReport : Report → List ℕ
 toldReport r = toldEnding (r .ending) (r .count)
+
+-- how a comparison ended (0 Same, 1 Differs), and for Differs the length of the text, the book's label and the table's
+abbrev pub toldCompared : Told → List ℕ
+toldCompared same = four 0 0 0 0
+toldCompared (differs n book table) = four 1 n book table

@@ -13,6 +13,8 @@ use Rattle.book.specs.Calls.{Size}
 use Rattle.cutting.specs.Cut.{Ending}
 use Rattle.cutting.specs.Cut.Ending.{Done, StuckAt, FullAt}
 use Rattle.cutting.specs.Calls.{Report}
+use Rattle.comparing.specs.Calls.{Told}
+use Rattle.comparing.specs.Calls.Told.{same, differs}
 use Rattle.library.specs.Packed.{Packed}
 
 -- the refusal of a number, at a place
@@ -50,3 +52,6 @@ endingOf kind at = cond (eqb kind 0) Done (cond (eqb kind 1) (StuckAt at) (FullA
 
 abbrev pub reportIn : List ℕ → Report
 reportIn cells = record { ending = endingOf (cell cells 0) (cell cells 2); count = cell cells 1 }
+
+abbrev pub comparedIn : List ℕ → Told
+comparedIn cells = cond (eqb (cell cells 0) 0) same (differs (cell cells 1) (cell cells 2) (cell cells 3))

@@ -6,8 +6,11 @@ ghost use Rattle.book.specs.Calls.{checked, checkOf};
 ghost use Rattle.table.specs.Calls.{counted, wrote, loadOf, writeOf};
 ghost use Rattle.cutting.specs.Calls.{ended};
 ghost use Rattle.cutting.specs.Flat.{cutCellsOf};
-ghost use Rattle.library.specs.Packed.{left, four, packed, toldCount, toldSize, toldReport};
+ghost use Rattle.building.specs.Calls.{buildOf};
+ghost use Rattle.comparing.specs.Calls.{compared, compareOf};
+ghost use Rattle.library.specs.Packed.{left, four, packed, toldCount, toldSize, toldReport, toldCompared};
 use book::Checked;
+use comparing::Compared;
 use cutting::Ended;
 use number::Refusal;
 use table::Counted;
@@ -25,6 +28,11 @@ const DONE: usize = 0;
 const STUCK: usize = 1;
 
 const FULL: usize = 2;
+
+// How a comparison ended.
+const SAME: usize = 0;
+
+const DIFFERS: usize = 1;
 
 // The four numbers of an answer go into its cells; the code says that it was given.
 fn give(answer: &mut [usize; CELLS], a: usize, b: usize, c: usize, d: usize) -> usize
@@ -82,6 +90,16 @@ fn tell_end(answer: &mut [usize; CELLS], found: Ended) -> usize
     }
 }
 
+fn tell_compared(answer: &mut [usize; CELLS], found: Compared) -> usize
+    ensures { λ code. ⌜ left code (now (answer .exit)) ≡ packed toldCompared (compared found) ⌝ }
+{
+    match found {
+        Compared::Same => give(answer, SAME, 0, 0, 0),
+        Compared::Differs(len, by_book, by_table) => give(answer, DIFFERS, len, by_book, by_table),
+        Compared::Refused(r) => refuse(answer, r),
+    }
+}
+
 // How many rules a book has and how many nodes in all.
 #[no_mangle]
 pub extern "C" fn lubi_check_book(book: &[u8], answer: &mut [usize; CELLS]) -> usize
@@ -89,6 +107,29 @@ pub extern "C" fn lubi_check_book(book: &[u8], answer: &mut [usize; CELLS]) -> u
 {
     let found = book::check_book(book);
     tell_size(answer, found)
+}
+
+// A book is built into the table area.
+#[no_mangle]
+pub extern "C" fn lubi_build(
+    book: &[u8],
+    labels: &mut [u8],
+    targets: &mut [u8],
+    work: &mut [u64],
+    answer: &mut [usize; CELLS],
+) -> usize
+    ensures { λ code. ⌜ left code (now (answer .exit))
+        ≡ packed toldCount
+        (buildOf (now (book .entry)) (now (labels .entry)) (now (targets .entry)) (now (work .entry)) .table .answer) ⌝ }
+    ensures { λ _. ⌜ now (labels .exit)
+        ≡ buildOf (now (book .entry)) (now (labels .entry)) (now (targets .entry)) (now (work .entry)) .table .labels ⌝ }
+    ensures { λ _. ⌜ now (targets .exit)
+        ≡ buildOf (now (book .entry)) (now (labels .entry)) (now (targets .entry)) (now (work .entry)) .table .targets ⌝ }
+    ensures { λ _. ⌜ now (work .exit)
+        ≡ buildOf (now (book .entry)) (now (labels .entry)) (now (targets .entry)) (now (work .entry)) .work ⌝ }
+{
+    let found = building::build(book, labels, targets, work);
+    tell_states(answer, found)
 }
 
 // A sheet is read into the table area.
@@ -144,4 +185,27 @@ pub extern "C" fn lubi_cut_from<'a>(
 {
     let found = cutting::cut_from(count, labels, targets, text, at, records);
     tell_end(answer, found)
+}
+
+// A book is compared with a table; where they differ, the text goes to the front of the text area.
+#[no_mangle]
+pub extern "C" fn lubi_compare<'a>(
+    book: &'a [u8],
+    count: usize,
+    labels: &'a [u8],
+    targets: &'a [u8],
+    text_area: &mut [u8],
+    work: &mut [u64],
+    answer: &mut [usize; CELLS],
+) -> usize
+    ensures { λ code. ⌜ left code (now (answer .exit))
+        ≡ packed toldCompared
+        (compareOf (now (book .entry)) count (now (labels .entry)) (now (targets .entry)) (now («text_area» .entry)) (now (work .entry)) .answer) ⌝ }
+    ensures { λ _. ⌜ now («text_area» .exit)
+        ≡ compareOf (now (book .entry)) count (now (labels .entry)) (now (targets .entry)) (now («text_area» .entry)) (now (work .entry)) .text ⌝ }
+    ensures { λ _. ⌜ now (work .exit)
+        ≡ compareOf (now (book .entry)) count (now (labels .entry)) (now (targets .entry)) (now («text_area» .entry)) (now (work .entry)) .work ⌝ }
+{
+    let found = comparing::compare_book(book, count, labels, targets, text_area, work);
+    tell_compared(answer, found)
 }

@@ -69,9 +69,12 @@ pairs = 256
 abbrev pub shownText : ℕ
 shownText = 256
 
--- lent work areas: the most cells that a call may ask for
+-- lent work areas: the most cells that a call may ask for, and the scratch for making one term, a derivative or a rule's normal form
 abbrev pub workCells : ℕ
 workCells = 65536
+
+abbrev pub scratch : ℕ
+scratch = 34816
 
 -- programs: bytes of a rule book's file, of standard input and of a sheet's file
 abbrev pub bookFile : ℕ

@@ -53,5 +53,7 @@ pub const TEXT_FILE: usize = 32768;
 
 pub const SHEET_FILE: usize = 65536;
 
-// Lent work areas: the most cells that a call may ask for, so that a cell's number fits sixteen bits.
+// Lent work areas: the most cells that a call may ask for, so that a cell's number fits sixteen bits; and the scratch for making one term.
 pub const WORK_CELLS: usize = 65536;
+
+pub const SCRATCH: usize = 34816;

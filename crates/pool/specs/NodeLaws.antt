@@ -4,54 +4,30 @@ use Prim.Native.Nat.{ℕ, suc, _+_, _<_, _≤_}
 use native.Mathlib.Omega.{arith}
 use native.Mathlib.Decide.{decLt}
 use mathlib.Core.Path.{_≡_, refl, sym, ap, subst, _∙_}
-use mathlib.Core.Bool.{Bool, true, false, cond, _&&_}
+use mathlib.Core.Bool.{Bool, true, false, _&&_}
 use mathlib.Core.List.{List}
 use borrow.Author.Tests.{eqb-true, eq-eqb, ne-eqb}
 use lib.Dec.{eqb}
-use lib.ListN.{getD}
+use lib.ListN.{length, getD}
+use lib.Seq.{getD-set-same}
 use Rattle.meaning.specs.Re.{Re}
 use Rattle.meaning.specs.Order.{kind}
 use Rattle.meaning.specs.Tests.{clash, and-true, true-and}
 use Rattle.term.specs.declared.Term.{Term}
 use Rattle.term.specs.declared.Term.the-variants.{Nothing, Empty, Range, Cat, Alt, Star}
-use Rattle.term.specs.Cells.{nodeOf, grow, term, Below}
+use Rattle.term.specs.Cells.{nodeOf, cellOf, grow, term, Below, Sound}
 use Rattle.term.specs.Nodes.{kindOf, firstOf, secondOf, Pushed}
-use Rattle.term.specs.CellLaws.{Same, frame, term-node}
+use Rattle.term.specs.ReadLaws.{kind-grow, rebuild, of-kind}
+use Rattle.term.specs.CellLaws.{Same, frame, term-node, node-cell, below-fields}
 use Rattle.walk.specs.Parts.{holds, withTerm}
 use Rattle.walk.specs.PartsLaws.{Held, term-held, term-new}
-use Rattle.pool.specs.Pooled.{termsOf, Pooled, After}
+use Rattle.pool.specs.Pooled.{termsOf, Pooled}
+use Rattle.pool.specs.Index.{poolCells, Indexed, chained, After}
 use Rattle.pool.specs.Steps.{sameNode, Looked}
 use Rattle.pool.specs.PoolLaws.{held-stands, term-held-below, terms-frame, same-number}
+use Rattle.pool.specs.IndexLaws.{indexed-more}
 
 -- ---- a node by its kind and fields
-
-abbrev rebuilt : ℕ → ℕ → ℕ → Term
-rebuilt k a b =
-    cond (eqb k 0) Nothing
-    (cond (eqb k 1) Empty
-    (cond (eqb k 2) (Range a b)
-    (cond (eqb k 3) (Cat a b)
-    (cond (eqb k 4) (Alt a b)
-    (Star a)))))
-
-rebuild : (u : Term) → u ≡ rebuilt (kindOf u) (firstOf u) (secondOf u)
-rebuild Nothing = refl
-rebuild Empty = refl
-rebuild (Range lo hi) = refl
-rebuild (Cat a b) = refl
-rebuild (Alt a b) = refl
-rebuild (Star a) = refl
-
-of-kind : (u : Term) (k : ℕ) → kindOf u ≡ k → u ≡ rebuilt k (firstOf u) (secondOf u)
-of-kind u k e = rw (← e) (rebuild u)
-
-kind-grow : (u : Term) (f : ℕ → Re) → kind (grow u f) ≡ kindOf u
-kind-grow Nothing f = refl
-kind-grow Empty f = refl
-kind-grow (Range lo hi) f = refl
-kind-grow (Cat a b) f = refl
-kind-grow (Alt a b) f = refl
-kind-grow (Star a) f = refl
 
 by-parts : (u w : Term) → kindOf u ≡ kindOf w → firstOf u ≡ firstOf w → secondOf u ≡ secondOf w → u ≡ w
 by-parts u w k a b = rebuild u ∙ rw (k, a, b) (sym (rebuild w))
@@ -80,7 +56,13 @@ by-second u w e f p q = rw (eq-eqb (kindOf u) (kindOf w) e, eq-eqb (firstOf u) (
 
 -- ---- nodes and terms
 
-below-more : (u : Term) (i j : ℕ) → Below u i → i ≤ j → Below u j
+-- a stored node is the one that stands in its cell
+pushed-node : {s : List ℕ} {top : ℕ} {u : Term} {s′ : List ℕ} {next : ℕ} → Sound s top → Below u top → Pushed s top u s′ next → top < length s
+    → nodeOf (getD s′ top 0) ≡ u
+pushed-node {s} {top} {u} ok b n h =
+    rw (n .memory, getD-set-same s top (cellOf u) 0 h) (node-cell u (below-fields u top (omega (arith, ok .small)) b))
+
+pub below-more : (u : Term) (i j : ℕ) → Below u i → i ≤ j → Below u j
 below-more Nothing i j b h = tt
 below-more Empty i j b h = tt
 below-more (Range lo hi) i j b h = b
@@ -118,7 +100,7 @@ module _ (f : ℕ → Re) (top : ℕ) (apart : (i j : ℕ) → i < top → j < t
       let p : firstOf w ≡ a = apart (firstOf w) a l b (cc) in
       cc
 
-module _ (s : List ℕ) (top : ℕ) (u : Term) (p : Pooled s top) (b : Below u top) where
+module _ (x s : List ℕ) (top : ℕ) (u : Term) (p : Pooled s top) (i : Indexed x s top) (b : Below u top) where
   -- a cell that holds the node holds its term, and the other way round
   cell-term : (k : ℕ) → k < top → nodeOf (getD s k 0) ≡ u → term s k ≡ grow u (term s)
   cell-term k h e = term-node s top k (p .sound) h ∙ ap (λ (w : Term). grow w (term s)) e
@@ -130,12 +112,13 @@ module _ (s : List ℕ) (top : ℕ) (u : Term) (p : Pooled s top) (b : Below u t
 
   -- the node was found: its term is held
   pub put-old : (r : ℕ) → r < top → Looked s top u r
-      → After s top (withTerm (termsOf s top) (grow u (term s))) s r top (grow u (term s)) (top + 1)
+      → After s top (withTerm (termsOf s top) (grow u (term s))) x s r top (grow u (term s)) (top + 1)
   put-old r h l =
       let e = cell-term r h (l .there h) in
       let held : Held (termsOf s top) (grow u (term s)) = rw e at (term-held-below s top r h) in
       record {
         pool = record { sound = p .sound; holds = sym (term-held (termsOf s top) (grow u (term s)) held); once = p .once };
+        indexed = i;
         up = omega arith;
         few = omega arith;
         within = h;
@@ -153,15 +136,16 @@ module _ (s : List ℕ) (top : ℕ) (u : Term) (p : Pooled s top) (b : Below u t
       absurd (none (t .at) (t .within) (term-cell (t .at) (t .within) (t .is)))
   not-held none false e = e
 
-  pub put-new : (r : ℕ) (s′ : List ℕ) (next : ℕ) → top ≤ r → Looked s top u r → Pushed s top u s′ next
-      → After s top (withTerm (termsOf s top) (grow u (term s))) s′ top next (grow u (term s)) (top + 1)
+  pub put-new : (r : ℕ) (s′ : List ℕ) (next : ℕ) → top ≤ r → Looked s top u r → Pushed s top u s′ next → top < poolCells → top < length s
+      → After s top (withTerm (termsOf s top) (grow u (term s))) (chained x top u) s′ top next (grow u (term s)) (top + 1)
   unfolding termsOf
-  put-new r s′ next h l n =
+  put-new r s′ next h l n few room =
       let new : holds (termsOf s top) (grow u (term s)) ≡ false =
-      not-held (λ k m. l .before k (omega arith)) (holds (termsOf s top) (grow u (term s))) refl in
+      not-held (l .absent h) (holds (termsOf s top) (grow u (term s))) refl in
       let g = n .makes .grown in
       let same : Same s s′ top = g .kept-below in
       let at : next ≡ suc top = omega (arith, n .after) in
+      let node : nodeOf (getD s′ top 0) ≡ u = pushed-node (p .sound) b n room in
       let is : term s′ top ≡ grow u (term s) = n .makes .is in
       let t : (i : ℕ) → i < top → term s′ i ≡ term s i = λ i k. frame s s′ top i (p .sound) same k in
       record {
@@ -176,6 +160,7 @@ module _ (s : List ℕ) (top : ℕ) (u : Term) (p : Pooled s top) (b : Below u t
                 clash (rw f at (term-held-below s top i (omega arith))) new
           ];
         };
+        indexed = rw (n .after) (indexed-more x s s′ top u i same node few);
         up = omega arith;
         few = omega arith;
         within = omega arith;

@@ -9,24 +9,26 @@ use Rattle.meaning.specs.Re.{Re, size}
 use Rattle.term.specs.declared.Term.{Term}
 use Rattle.term.specs.declared.Term.the-variants.{Nothing, Empty, Range, Cat, Alt, Star}
 use Rattle.term.specs.Cells.{grow, term, Sound}
-use Rattle.term.specs.Area.{Room}
 use Rattle.term.specs.Nodes.{kindOf, Found}
 use Rattle.term.specs.CellLaws.{frame, sound-less}
 use Rattle.term.specs.ReadLaws.{leaf-size, cat-size, alt-size, star-size}
 use Rattle.walk.specs.Parts.{withTerm, withParts}
-use Rattle.pool.specs.Pooled.{termsOf, After, Put}
+use Rattle.pool.specs.Pooled.{termsOf}
+use Rattle.pool.specs.Index.{After, Put, Open}
 use Rattle.pool.specs.Steps.{Copied}
 use Rattle.pool.specs.PoolLaws.{pool-as}
+use Rattle.pool.specs.IndexLaws.{open-less}
 use Rattle.pool.specs.CopyLaws.{leaf-grow}
 
 -- ---- one after another
 
 -- the same by other names of the terms and of the term, and with an end further up
-pub after-as : {s s′ : List ℕ} {top root top′ end : ℕ} {terms : List Re} {v : Re} (terms′ : List Re) (v′ : Re) (end′ : ℕ)
-    → After s top terms s′ root top′ v end → terms ≡ terms′ → v ≡ v′ → end ≤ end′ → After s top terms′ s′ root top′ v′ end′
+pub after-as : {s x′ s′ : List ℕ} {top root top′ end : ℕ} {terms : List Re} {v : Re} (terms′ : List Re) (v′ : Re) (end′ : ℕ)
+    → After s top terms x′ s′ root top′ v end → terms ≡ terms′ → v ≡ v′ → end ≤ end′ → After s top terms′ x′ s′ root top′ v′ end′
 after-as terms′ v′ end′ a d e h =
     record {
       pool = pool-as terms′ (a .pool) d;
+      indexed = a .indexed;
       up = a .up;
       few = omega (arith, a .few);
       within = a .within;
@@ -37,11 +39,12 @@ after-as terms′ v′ end′ a d e h =
     }
 
 -- what is put second
-pub after-then : {s s′ s″ : List ℕ} {top root top′ root′ top″ end end′ : ℕ} {terms terms′ : List Re} {v v′ : Re}
-    → After s top terms s′ root top′ v end → After s′ top′ terms′ s″ root′ top″ v′ end′ → end ≤ end′ → After s top terms′ s″ root′ top″ v′ end′
+pub after-then : {s x′ s′ x″ s″ : List ℕ} {top root top′ root′ top″ end end′ : ℕ} {terms terms′ : List Re} {v v′ : Re}
+    → After s top terms x′ s′ root top′ v end → After s′ top′ terms′ x″ s″ root′ top″ v′ end′ → end ≤ end′ → After s top terms′ x″ s″ root′ top″ v′ end′
 after-then a b h =
     record {
       pool = b .pool;
+      indexed = b .indexed;
       up = omega (arith, a .up, b .up);
       few = b .few;
       within = b .within;
@@ -52,19 +55,19 @@ after-then a b h =
     }
 
 -- what was put first is still there
-pub after-kept : {s s′ s″ : List ℕ} {top root top′ root′ top″ end end′ : ℕ} {terms terms′ : List Re} {v v′ : Re}
-    → After s top terms s′ root top′ v end → After s′ top′ terms′ s″ root′ top″ v′ end′ → term s″ root ≡ v
-after-kept {s} {s′} {s″} {top} {root} {top′} a b = frame s′ s″ top′ root (a .pool .sound) (b .kept-below) (a .within) ∙ a .is
+pub after-kept : {s x′ s′ x″ s″ : List ℕ} {top root top′ root′ top″ end end′ : ℕ} {terms terms′ : List Re} {v v′ : Re}
+    → After s top terms x′ s′ root top′ v end → After s′ top′ terms′ x″ s″ root′ top″ v′ end′ → term s″ root ≡ v
+after-kept {s} {x′} {s′} {x″} {s″} {top} {root} {top′} a b = frame s′ s″ top′ root (a .pool .sound) (b .kept-below) (a .within) ∙ a .is
 
 -- ---- the returns of put_copy
 
 -- what put_node tells
-abbrev pub Node : List ℕ → ℕ → Term → List ℕ → ℕ → ℕ → Type 0
-Node s top u s′ root top′ = After s top (withTerm (termsOf s top) (grow u (term s))) s′ root top′ (grow u (term s)) (top + 1)
+abbrev pub Node : List ℕ → ℕ → Term → List ℕ → List ℕ → ℕ → ℕ → Type 0
+Node s top u x′ s′ root top′ = After s top (withTerm (termsOf s top) (grow u (term s))) x′ s′ root top′ (grow u (term s)) (top + 1)
 
 -- what put_copy tells of a term
-abbrev pub Copy : List ℕ → ℕ → Re → List ℕ → ℕ → ℕ → Type 0
-Copy s top v s′ root top′ = Put s top (termsOf s top) s′ root top′ v (top + size v)
+abbrev pub Copy : List ℕ → ℕ → Re → List ℕ → List ℕ → ℕ → ℕ → Type 0
+Copy s top v x′ s′ root top′ = Put s top (termsOf s top) x′ s′ root top′ v (top + size v)
 
 leaf-parts : (p : List Re) (u : Term) (f : ℕ → Re) → kindOf u < 3 → withTerm p (grow u f) ≡ withParts p (grow u f)
 unfolding withParts
@@ -88,19 +91,19 @@ unfolding withParts
 parts-star p a e = rw e
 
 module _ (out : List ℕ) (k : ℕ) where
-  pub put-leaf : {s s′ : List ℕ} {top root top′ : ℕ} (u : Term) → Found out k u → kindOf u < 3 → Node s top u s′ root top′
-      → Copy s top (term out k) s′ root top′
-  put-leaf {s} {s′} {top} u f h n =
+  pub put-leaf : {s x′ s′ : List ℕ} {top root top′ : ℕ} (u : Term) → Found out k u → kindOf u < 3 → Node s top u x′ s′ root top′
+      → Copy s top (term out k) x′ s′ root top′
+  put-leaf {s} {x′} {s′} {top} u f h n =
       let e : grow u (term s) ≡ term out k = leaf-grow u (term s) (term out) h ∙ sym (f .is) in
       after-as (withParts (termsOf s top) (term out k)) (term out k) (top + size (term out k)) n
       (leaf-parts (termsOf s top) u (term s) h ∙ ap (withParts (termsOf s top)) e) e (omega (arith, leaf-size out k u f h))
 
   -- a node of two children, whose parts are theirs and itself
-  put-two : {s s₁ s₂ s₃ : List ℕ} {top r₁ t₁ r₂ t₂ r₃ t₃ : ℕ} (w : Term) (x y : Re) → Copy s top x s₁ r₁ t₁ → Copy s₁ t₁ y s₂ r₂ t₂
-      → Node s₂ t₂ w s₃ r₃ t₃ → grow w (term s₂) ≡ term out k → size (term out k) ≡ 1 + size x + size y
+  put-two : {s x₁ s₁ x₂ s₂ x₃ s₃ : List ℕ} {top r₁ t₁ r₂ t₂ r₃ t₃ : ℕ} (w : Term) (x y : Re) → Copy s top x x₁ s₁ r₁ t₁ → Copy s₁ t₁ y x₂ s₂ r₂ t₂
+      → Node s₂ t₂ w x₃ s₃ r₃ t₃ → grow w (term s₂) ≡ term out k → size (term out k) ≡ 1 + size x + size y
       → withParts (termsOf s top) (term out k) ≡ withTerm (withParts (withParts (termsOf s top) x) y) (term out k)
-      → Copy s top (term out k) s₃ r₃ t₃
-  put-two {s} {s₁} {s₂} {s₃} {top} {r₁} {t₁} {r₂} {t₂} w x y p q n e z d =
+      → Copy s top (term out k) x₃ s₃ r₃ t₃
+  put-two {s} {x₁} {s₁} {x₂} {s₂} {x₃} {s₃} {top} {r₁} {t₁} {r₂} {t₂} w x y p q n e z d =
       let first : termsOf s₁ t₁ ≡ withParts (termsOf s top) x = p .pool .holds in
       let second : termsOf s₂ t₂ ≡ withParts (termsOf s₁ t₁) y = q .pool .holds in
       let all : withTerm (termsOf s₂ t₂) (grow w (term s₂)) ≡ withParts (termsOf s top) (term out k) = cc in
@@ -110,23 +113,23 @@ module _ (out : List ℕ) (k : ℕ) where
       let q′ = after-as (withParts (termsOf s₁ t₁) y) y (top + size (term out k)) q refl refl (omega arith) in
       after-then (after-then p q′ (omega arith)) n′ (omega arith)
 
-  pub put-cat : {s s₁ s₂ s₃ : List ℕ} {top r₁ t₁ r₂ t₂ r₃ t₃ a b : ℕ} → Found out k (Cat a b) → Copy s top (term out a) s₁ r₁ t₁
-      → Copy s₁ t₁ (term out b) s₂ r₂ t₂ → Node s₂ t₂ (Cat r₁ r₂) s₃ r₃ t₃ → Copy s top (term out k) s₃ r₃ t₃
-  put-cat {s} {s₁} {s₂} {s₃} {top} {r₁} {t₁} {r₂} {t₂} {r₃} {t₃} {a} {b} f p q n =
+  pub put-cat : {s x₁ s₁ x₂ s₂ x₃ s₃ : List ℕ} {top r₁ t₁ r₂ t₂ r₃ t₃ a b : ℕ} → Found out k (Cat a b) → Copy s top (term out a) x₁ s₁ r₁ t₁
+      → Copy s₁ t₁ (term out b) x₂ s₂ r₂ t₂ → Node s₂ t₂ (Cat r₁ r₂) x₃ s₃ r₃ t₃ → Copy s top (term out k) x₃ s₃ r₃ t₃
+  put-cat {s} {x₁} {s₁} {x₂} {s₂} {x₃} {s₃} {top} {r₁} {t₁} {r₂} {t₂} {r₃} {t₃} {a} {b} f p q n =
       let left = after-kept p q in
       put-two (Cat r₁ r₂) (term out a) (term out b) p q n (cc (left, q .is, f .is)) (cat-size out k a b f)
       (parts-cat (termsOf s top) (term out a) (term out b) (f .is))
 
-  pub put-alt : {s s₁ s₂ s₃ : List ℕ} {top r₁ t₁ r₂ t₂ r₃ t₃ a b : ℕ} → Found out k (Alt a b) → Copy s top (term out a) s₁ r₁ t₁
-      → Copy s₁ t₁ (term out b) s₂ r₂ t₂ → Node s₂ t₂ (Alt r₁ r₂) s₃ r₃ t₃ → Copy s top (term out k) s₃ r₃ t₃
-  put-alt {s} {s₁} {s₂} {s₃} {top} {r₁} {t₁} {r₂} {t₂} {r₃} {t₃} {a} {b} f p q n =
+  pub put-alt : {s x₁ s₁ x₂ s₂ x₃ s₃ : List ℕ} {top r₁ t₁ r₂ t₂ r₃ t₃ a b : ℕ} → Found out k (Alt a b) → Copy s top (term out a) x₁ s₁ r₁ t₁
+      → Copy s₁ t₁ (term out b) x₂ s₂ r₂ t₂ → Node s₂ t₂ (Alt r₁ r₂) x₃ s₃ r₃ t₃ → Copy s top (term out k) x₃ s₃ r₃ t₃
+  put-alt {s} {x₁} {s₁} {x₂} {s₂} {x₃} {s₃} {top} {r₁} {t₁} {r₂} {t₂} {r₃} {t₃} {a} {b} f p q n =
       let left = after-kept p q in
       put-two (Alt r₁ r₂) (term out a) (term out b) p q n (cc (left, q .is, f .is)) (alt-size out k a b f)
       (parts-alt (termsOf s top) (term out a) (term out b) (f .is))
 
-  pub put-star : {s s₁ s₂ : List ℕ} {top r₁ t₁ r₂ t₂ a : ℕ} → Found out k (Star a) → Copy s top (term out a) s₁ r₁ t₁
-      → Node s₁ t₁ (Star r₁) s₂ r₂ t₂ → Copy s top (term out k) s₂ r₂ t₂
-  put-star {s} {s₁} {s₂} {top} {r₁} {t₁} {r₂} {t₂} {a} f p n =
+  pub put-star : {s x₁ s₁ x₂ s₂ : List ℕ} {top r₁ t₁ r₂ t₂ a : ℕ} → Found out k (Star a) → Copy s top (term out a) x₁ s₁ r₁ t₁
+      → Node s₁ t₁ (Star r₁) x₂ s₂ r₂ t₂ → Copy s top (term out k) x₂ s₂ r₂ t₂
+  put-star {s} {x₁} {s₁} {x₂} {s₂} {top} {r₁} {t₁} {r₂} {t₂} {a} f p n =
       let e : grow (Star r₁) (term s₁) ≡ term out k = cc (p .is, f .is) in
       let first : termsOf s₁ t₁ ≡ withParts (termsOf s top) (term out a) = p .pool .holds in
       let d = parts-star (termsOf s top) (term out a) (f .is) in
@@ -137,11 +140,11 @@ module _ (out : List ℕ) (k : ℕ) where
 
 -- ---- a term that was copied out first
 
-pub copied-asks : {out o : List ℕ} {end : ℕ} {v : Re} (s : List ℕ) (top : ℕ) → Copied out 0 o end v → size v ≤ treeNodes → Room s top treeNodes
-    → Sound o (end - 1 + 1) × Room s top (size (term o (end - 1)))
-copied-asks {out} {o} {end} s top c h r =
-    (sound-less (end - 1 + 1) (c .makes .grown .sound) (omega (arith, c .makes .within)), rw (c .makes .is) (omega arith))
+pub copied-asks : {out o : List ℕ} {end : ℕ} {v : Re} (x s : List ℕ) (top : ℕ) → Copied out 0 o end v → size v ≤ treeNodes → Open x s top treeNodes
+    → Sound o (end - 1 + 1) × Open x s top (size (term o (end - 1)))
+copied-asks {out} {o} {end} x s top c h r =
+    (sound-less (end - 1 + 1) (c .makes .grown .sound) (omega (arith, c .makes .within)), open-less (size (term o (end - 1))) r (rw (c .makes .is) h))
 
-pub put-copied : {out o s s′ : List ℕ} {end top root top′ : ℕ} {v : Re} → Copied out 0 o end v → Copy s top (term o (end - 1)) s′ root top′
-    → Copy s top v s′ root top′
+pub put-copied : {out o s x′ s′ : List ℕ} {end top root top′ : ℕ} {v : Re} → Copied out 0 o end v → Copy s top (term o (end - 1)) x′ s′ root top′
+    → Copy s top v x′ s′ root top′
 put-copied c p = rw (c .makes .is) at p

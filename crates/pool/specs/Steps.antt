@@ -16,11 +16,11 @@ use Rattle.term.specs.Nodes.{kindOf, firstOf, secondOf}
 abbrev pub sameNode : Term → Term → Bool
 sameNode x y = eqb (kindOf x) (kindOf y) && (eqb (firstOf x) (firstOf y) && eqb (secondOf x) (secondOf y))
 
--- r is the first cell below top that holds this node, or top where none does
+-- r is a cell below top that holds this node, or top where none does
 pub record Looked (s : List ℕ) (top : ℕ) (u : Term) (r : ℕ) : Type 0 where
   pub within : r ≤ top
   pub there : r < top → nodeOf (getD s r 0) ≡ u
-  pub before : (k : ℕ) → k < r → nodeOf (getD s k 0) ≡ u → ⊥
+  pub absent : top ≤ r → (k : ℕ) → k < top → nodeOf (getD s k 0) ≡ u → ⊥
 
 -- the tree of v was stored from place `at` on, one cell a tree node, its root last
 pub record Copied (out : List ℕ) (at : ℕ) (out′ : List ℕ) (end : ℕ) (v : Re) : Type 0 where

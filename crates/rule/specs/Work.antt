@@ -5,7 +5,7 @@ use mathlib.Core.Path.{_≡_}
 use mathlib.Core.Bool.{true}
 use mathlib.Core.List.{List, [], _∷_, _++_}
 use lib.ListN.{length, getD, drop}
-use Rattle.number.specs.Limits.{version}
+use Rattle.number.specs.Limits.{version, scratch}
 use Rattle.number.specs.Refused.{Answer}
 use Rattle.number.specs.Refused.Answer.{got, refused}
 use Rattle.meaning.specs.Re.{Re}
@@ -45,7 +45,7 @@ ruleIn file i = ruleOfRead (readBook file) i
 
 -- the cells that its normal form may need
 abbrev pub ruleScratch : ℕ
-ruleScratch = 34816
+ruleScratch = scratch
 
 abbrev pub RuleMade : List ℕ → ℕ → List ℕ → ℕ → List ℕ → Made → Type 0
 RuleMade file rule s top s′ r = MadeBy s top s′ r (normalFit (ruleIn file rule)) ruleScratch

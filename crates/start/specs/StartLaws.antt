@@ -4,16 +4,14 @@ use Prim.Native.Nat.{ℕ, suc, _+_, _*_, _<_, _≤_}
 use native.Mathlib.Numerals.{add-one}
 use native.Mathlib.Omega.{arith}
 use mathlib.Core.Path.{_≡_, refl, sym, ap, _∙_}
-use mathlib.Core.Logic.{inl, inr}
 use mathlib.Core.Bool.{Bool, true, false, cond}
-use mathlib.Core.List.{List, [], _∷_, _++_, append-assoc, append-nil, map-append}
-use borrow.Author.Tests.{le-leb}
-use lib.ListN.{length, take, drop, set, replicate, length-set, length-map, length-replicate, getD-replicate, drop-of-length-le, List·getD-map}
-use lib.Seq.{drop-cons, take-suc-set, getD-set-same, getD-set-other}
+use mathlib.Core.List.{List, [], _∷_, _++_, append-assoc, append-nil}
+use lib.ListN.{length, drop, set, replicate, length-set, length-map, length-replicate, getD-replicate, drop-of-length-le, List·getD-map}
+use lib.Seq.{drop-cons, getD-set-same, getD-set-other}
 use Rattle.number.specs.Limits.{rules, treeNodes}
 use Rattle.meaning.specs.Re.{Re, size}
 use Rattle.meaning.specs.Re.Re.{Nothing, Empty, Range, Cat, Alt, Star}
-use Rattle.meaning.specs.Normal.{cat, alt, star, normal}
+use Rattle.meaning.specs.Normal.{cat, alt, star}
 use Rattle.meaning.specs.Limited.{Fit, _>>=_, short, fit, normalFit}
 use Rattle.meaning.specs.Limited.Fit.{Long, Fits}
 use Rattle.meaning.specs.LimitedLaws.{normal-short}
@@ -30,55 +28,19 @@ use Rattle.normal.specs.declared.Made.{Made}
 use Rattle.normal.specs.declared.Made.the-variants.{Long as Made·long}
 use Rattle.normal.specs.AnswerLaws.{Got, long-is}
 use Rattle.rule.specs.Work.{Has, ruleIn, ruleScratch, RuleMade}
-use Rattle.pool.specs.Pooled.{termsOf, Pool, Pooled, Put}
-use Rattle.pool.specs.PoolLaws.{held-stands, term-held-below, terms-frame, pooled, pool-as, pool-none, pool-same}
+use Rattle.pool.specs.Pooled.{termsOf, Pool}
+use Rattle.pool.specs.Index.{Indexed, Open, Put}
+use Rattle.pool.specs.IndexLaws.{indexed-same}
+use Rattle.pool.specs.PoolLaws.{terms-frame, pooled, pool-as, pool-none, pool-same}
 use Rattle.walk.specs.Vectors.{Vector, front, normalised}
 use Rattle.walk.specs.Vectors.Vector.{TooLong, Terms}
 use Rattle.walk.specs.Parts.{withParts, withVector}
-use Rattle.walk.specs.PartsLaws.{Part, Held, parts-hold}
-use Rattle.walk.specs.PartsLaws.Part.{whole, cat-left, cat-right, alt-left, alt-right, star-in}
 use Rattle.vector.specs.Layout.{nothingCell}
 use Rattle.vector.specs.Vectors.{vectorOf}
-use Rattle.vector.specs.Memory.{Shaped}
 use Rattle.vector.specs.PlaceLaws.{all-more}
 use Rattle.vector.specs.MemoryLaws.{vector-same-cells}
+use Rattle.vector.specs.DeriveLaws.{shaped-put, with-snoc, vector-set}
 use Rattle.start.specs.Start.{rulesIn, Opened, fronts, Begun, First}
-
--- ---- one place more of a vector, and one term more of a pool in shape
-
-with-snoc : (p xs : List Re) (x : Re) → withVector p (xs ++ (x ∷ [])) ≡ withParts (withVector p xs) x
-unfolding withVector
-with-snoc p [] x = refl
-with-snoc p (r ∷ xs) x = with-snoc (withParts p r) xs x
-
-vector-set : (s : List ℕ) (i : ℕ) (w : List ℕ) (a : ℕ) → i < length w → vectorOf s (i + 1) (set w i a) ≡ vectorOf s i w ++ (term s a ∷ [])
-vector-set s i w a h = rw (add-one, take-suc-set w i a h) (map-append (term s) (take i w) (a ∷ []))
-
-part-shape : {x r : Re} → Part x r → InShape r → InShape x
-part-shape (whole e) s = rw e s
-part-shape (cat-left p) s = part-shape p (s .0)
-part-shape (cat-right p) s = part-shape p (s .1)
-part-shape (alt-left p) s = part-shape p (s .0)
-part-shape (alt-right p) s = part-shape p (s .1)
-part-shape (star-in p) s = part-shape p (s .0)
-
-part-size : {x r : Re} → Part x r → size x ≤ size r
-unfolding size
-part-size {x} {r} (whole e) = rw e (omega arith)
-part-size (cat-left p) = omega (arith, part-size p)
-part-size (cat-right p) = omega (arith, part-size p)
-part-size (alt-left p) = omega (arith, part-size p)
-part-size (alt-right p) = omega (arith, part-size p)
-part-size (star-in p) = omega (arith, part-size p)
-
-shaped-put : (s : List ℕ) (top : ℕ) (s′ : List ℕ) (top′ : ℕ) (x : Re) → Shaped s top → Pool s′ top′ (withParts (termsOf s top) x) → InShape x
-    → short x ≡ true → Shaped s′ top′
-shaped-put s top s′ top′ x old p f b i h =
-    let held : Held (withParts (termsOf s top) x) (term s′ i) = rw (p .holds) at (term-held-below s′ top′ i h) in
-    elim (parts-hold (termsOf s top) x (term s′ i) .0 held) [
-      | inl k ↦ let t = held-stands s top (term s′ i) k in rw (← t .is) (old (t .at) (t .within))
-      | inr k ↦ (part-shape k f, le-leb (size (term s′ i)) treeNodes (omega (arith, part-size k, short-size x b)))
-    ]
 
 -- ---- a normal form that fits is short
 
@@ -201,8 +163,14 @@ module _ {file : List ℕ} {n : ℕ} {s₀ : List ℕ} (o : Opened file n s₀) 
       grown : Grown s top s₁ above
       grown = x .makes .grown
 
-      pub put-pooled : Pooled s₁ top
-      put-pooled = pooled (pool-same s₁ (g .pooled) (grown .kept-below) (grown .same-length))
+      pub put-open : {index : List ℕ} → Indexed index s top → Open index s₁ top treeNodes
+      put-open i =
+          record {
+            pooled = pooled (pool-same s₁ (g .pooled) (grown .kept-below) (grown .same-length));
+            indexed = indexed-same s₁ i (grown .kept-below);
+            room = omega (arith, low, g .long, grown .same-length);
+            inside = omega (arith, low);
+          }
 
       pub put-sound : Sound s₁ (root + 1)
       put-sound = sound-less (root + 1) (grown .sound) (omega (arith, x .makes .within))
@@ -210,12 +178,9 @@ module _ {file : List ℕ} {n : ℕ} {s₀ : List ℕ} (o : Opened file n s₀) 
       pub put-small : size (term s₁ root) ≤ treeNodes
       put-small = rw (x .makes .is) (short-size (x .value) value-short)
 
-      pub put-room : Room s₁ top treeNodes
-      put-room = omega (arith, low, g .long, grown .same-length)
-
       -- and is put into the pool
-      module _ {s₂ : List ℕ} {root′ top′ : ℕ}
-          (p : Put s₁ top (termsOf s₁ top) s₂ root′ top′ (term s₁ root) (top + size (term s₁ root))) where
+      module _ {x₂ s₂ : List ℕ} {root′ top′ : ℕ}
+          (p : Put s₁ top (termsOf s₁ top) x₂ s₂ root′ top′ (term s₁ root) (top + size (term s₁ root))) where
         on : Same s s₂ top
         on j k = p .kept-below j k ∙ grown .kept-below j k
 

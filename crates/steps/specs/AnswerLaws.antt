@@ -9,15 +9,23 @@ use Rattle.number.specs.declared.Refusal.{Refusal}
 use Rattle.number.specs.declared.Refusal.the-variants.{Long, Pool}
 use Rattle.number.specs.Limits.{pool, pairs}
 use Rattle.meaning.specs.Re.{Re}
+use Rattle.meaning.specs.Re.Re.{Nothing}
+use Rattle.term.specs.Cells.{Sound}
+use Rattle.term.specs.CellLaws.{frame}
 use Rattle.pool.specs.Pooled.{termsOf}
-use Rattle.pool.specs.PoolLaws.{pool-length, pooled, terms-length}
+use Rattle.pool.specs.Index.{Indexed}
+use Rattle.pool.specs.IndexLaws.{indexed-same}
+use Rattle.pool.specs.PoolLaws.{pool-length, pooled, terms-length, term-held-below}
+use Rattle.pool.specs.ClosedLaws.{pool-closed}
 use Rattle.walk.specs.Vectors.{Vector, derived}
 use Rattle.walk.specs.Vectors.Vector.{TooLong, Terms}
 use Rattle.walk.specs.Parts.{withVector}
+use Rattle.walk.specs.PartsLaws.{vector-held, Held as Pool·held}
 use Rattle.walk.specs.Walk.{Item, none, Held, nothingHeld, numberIn, Way, added, come, after, comeBy, step}
 use Rattle.walk.specs.Walk.Step.{reached}
 use Rattle.walk.specs.StepLaws.{item}
-use Rattle.vector.specs.Vectors.{vectorOf}
+use Rattle.vector.specs.Vectors.{vectorOf, Numbers}
+use Rattle.vector.specs.PlaceLaws.{vector-length, vector-at}
 use Rattle.vector.specs.Memory.{numbersAt, textOf, itemOf, itemsOf, heldOf, Kept}
 use Rattle.vector.specs.Promises.{Done, Spared, Finds, itemStored}
 use Rattle.vector.specs.MemoryLaws.{
@@ -29,6 +37,7 @@ use Rattle.vector.specs.MemoryLaws.{
   kept-grown,
   found-number,
   stored-length,
+  stored-low,
   stored-terms,
   stored-kept,
   stored-first,
@@ -94,6 +103,22 @@ module _ (s : List ℕ) (n top count limit i byte sheet : ℕ) (full : Refusal) 
     many : length (itemsOf s n count) ≡ count
     many = items-length s n count
 
+    -- a vector that is held adds nothing to the pool
+    held-top : at < count → top′ ≡ top
+    held-top l =
+        let low : Numbers n top w = rw (finds .there l .same-numbers) at (kept-spared s n top count s′ (ok .kept) few spared .numbers at l) in
+        let whole : n ≤ length w = omega (arith, low .whole, ok .kept .few-rules) in
+        let sound : Sound s top = ok .kept .pooled .sound in
+        let held : (k : ℕ) → k < length (vectorOf s′ n w) → Pool·held (termsOf s top) (getD (vectorOf s′ n w) k Nothing) =
+        λ k h.
+        let inside : k < n = omega (arith, vector-length s′ n w whole) in
+        let old = frame s s′ top (getD w k 0) sound (spared .kept-below) (low .inside k inside) in
+        rw (vector-at s′ n w k whole inside, old) (term-held-below s top (getD w k 0) (low .inside k inside)) in
+        sym size ∙ ap length (vector-held (termsOf s top) (vectorOf s′ n w) (pool-closed s top sound) held) ∙ terms-length s top
+
+    pub index-held : (x : List ℕ) → Indexed x s′ top′ → at < count → Indexed x s′ top
+    index-held x i l = rw (held-top l) at i
+
     pub answer-held : at < count → Steps s n count limit s′ (step way i old byte) (Reached top count at)
     answer-held l = record {
       same-length = spared .same-length;
@@ -141,6 +166,9 @@ module _ (s : List ℕ) (n top count limit i byte sheet : ℕ) (full : Refusal) 
           ++ (record { sheet = sheet; vector = vectorOf s′ n w; text = text j ++ (byte ∷ []) } ∷ []))
           (stored-terms s′ n top′ count w sheet i byte s″ grown room (done .numbers) stored ∙ done .pooled .holds)
 
+      pub index-new : (x : List ℕ) → Indexed x s′ top′ → Indexed x s″ top′
+      index-new x y = indexed-same s″ y (stored-low s′ n top′ count w sheet i byte s″ grown room (done .numbers) stored)
+
       pub answer-new : count ≤ at → Steps s n count limit s″ (step way i old byte) (Reached top′ (count + 1) count)
       answer-new l = record {
         same-length = stored-length s′ n top′ count w sheet i byte s″ grown room (done .numbers) stored ∙ spared .same-length;
@@ -177,6 +205,9 @@ module _ (s : List ℕ) (n top : ℕ) (v : List ℕ) (ok : First s n top v) wher
     first-held =
         held-as (stored-first s n top 0 v 0 0 0 s′ (ok .kept) (omega arith) (ok .numbers) stored refl)
         (stored-terms s n top 0 v 0 0 0 s′ (ok .kept) (omega arith) (ok .numbers) stored ∙ ok .holds)
+
+    pub begun-index : (x : List ℕ) → Indexed x s top → Indexed x s′ top
+    begun-index x y = indexed-same s′ y (stored-low s n top 0 v 0 0 0 s′ (ok .kept) (omega arith) (ok .numbers) stored)
 
     pub begins-held : Begins s n v s′ (Reached top 1 0)
     unfolding numberIn

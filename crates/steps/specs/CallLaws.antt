@@ -9,12 +9,13 @@ use Rattle.number.specs.Limits.{bytes, pairs}
 use Rattle.walk.specs.Walk.{Held, Step, Way, step}
 use Rattle.walk.specs.Walk.Step.{stopped}
 use Rattle.walk.specs.StepLaws.{item}
+use Rattle.pool.specs.Index.{Indexed}
 use Rattle.vector.specs.Memory.{numbersAt, Kept}
 use Rattle.vector.specs.Promises.{Within, Reads}
 use Rattle.vector.specs.MemoryLaws.{reads}
 use Rattle.steps.specs.declared.Stepped.{Stepped}
 use Rattle.steps.specs.declared.Stepped.the-variants.{Reached, Stopped}
-use Rattle.steps.specs.Step.{wayOf, Ready, Went, Comes, Steps}
+use Rattle.steps.specs.Step.{wayOf, Ready, Went, Comes, Steps, Follows}
 use Rattle.steps.specs.WayLaws.{step-way}
 
 -- the answer told apart
@@ -25,6 +26,10 @@ went {s} {n} {before} {limit} {s′} {w} x e = subst (Comes s′ n before limit 
 pub halts : {s : List ℕ} {n before limit : ℕ} {s′ : List ℕ} {w : Step} {r : Stepped} {q : Refusal} → Steps s n before limit s′ w r
     → r ≡ Stopped q → w ≡ stopped q
 halts {s} {n} {before} {limit} {s′} {w} x e = subst (Comes s′ n before limit w) e (x .comes)
+
+-- the index at the top that was reached
+pub followed : {x s : List ℕ} {r : Stepped} {top count j : ℕ} → Follows x s r → r ≡ Reached top count j → Indexed x s top
+followed {x} {s} f e = subst (Follows x s) e f
 
 -- the step is one of the caller's walk
 pub steps-way : {s : List ℕ} {n before : ℕ} {s′ : List ℕ} {r : Stepped} (way : Way) (i sheet limit : ℕ) (full : Refusal) (h : Held) (c : ℕ)

@@ -8,6 +8,7 @@ use Rattle.number.specs.declared.Refusal.{Refusal}
 use Rattle.number.specs.Limits.{bytes, pool, pairs}
 use Rattle.meaning.specs.Re.{Re}
 use Rattle.pool.specs.Pooled.{termsOf}
+use Rattle.pool.specs.Index.{Indexed}
 use Rattle.walk.specs.Parts.{withVector}
 use Rattle.walk.specs.Walk.{Item, nothingHeld, Step, Way, come}
 use Rattle.walk.specs.Walk.Step.{stopped, reached}
@@ -48,6 +49,11 @@ pub record Steps (s : List ℕ) (n before limit : ℕ) (s′ : List ℕ) (w : St
   pub same-length : length s′ ≡ length s
   pub comes : Comes s′ n before limit w r
 
+-- x is the index of the pool up to the top that was reached
+abbrev pub Follows : List ℕ → List ℕ → Stepped → Type 0
+Follows x s (Reached top count j) = Indexed x s top
+Follows x s (Stopped r) = Unit
+
 -- vector 0 stands in the pool with all its parts, and nothing else does
 pub record First (s : List ℕ) (n top : ℕ) (v : List ℕ) : Type 0 where
   pub kept : Kept s n top 0
@@ -60,3 +66,7 @@ firstItem v = record { sheet = 0; vector = v; text = [] }
 -- the walk begins at vector 0, whatever its way, if that allows an item at all
 pub record Begins (s : List ℕ) (n : ℕ) (v : List ℕ) (s′ : List ℕ) (r : Stepped) : Type 0 where
   pub begins : (way : Way) → 1 ≤ way .limit → Steps s n 0 (way .limit) s′ (come way 0 nothingHeld (firstItem (vectorOf s n v))) r
+
+-- an index of the pool is still one
+pub record Keeps (s : List ℕ) (top : ℕ) (s′ : List ℕ) (r : Stepped) : Type 0 where
+  pub keeps : (x : List ℕ) → Indexed x s top → Follows x s′ r

@@ -1,8 +1,9 @@
 // One step of the walk over vectors in the work area, for building and comparing: from an item by a byte to a held item or a new one.
 // Its tests stand in the order of the refusals: Long; for a new item the limit of items, and then the pool.
 ghost use Rattle.walk.specs.Walk.{step};
+ghost use Rattle.pool.specs.Index.{Indexed};
 ghost use Rattle.vector.specs.Memory.{heldOf};
-ghost use Rattle.steps.specs.Step.{wayOf, Ready, Steps, First, Begins};
+ghost use Rattle.steps.specs.Step.{wayOf, Ready, Steps, Follows, First, Begins, Keeps};
 use number::Refusal;
 use number::limits::POOL;
 use vector::Vector;
@@ -19,6 +20,7 @@ pub enum Stepped {
 
 // The step from item `i` by a byte, where the sheet goes to state `sheet`; one item more than `limit` is refused with `full`.
 pub fn step(
+    index: &mut [usize],
     cells: &mut [u64],
     top: usize,
     count: usize,
@@ -30,11 +32,13 @@ pub fn step(
     full: Refusal,
 ) -> Stepped
     requires { ⌜ Ready (now cells) n top count limit i byte ⌝ }
+    requires { ⌜ Indexed (now index) (now cells) top ⌝ }
     ensures { λ r. ⌜ Steps (now (cells .entry)) n count limit (now (cells .exit))
         (step (wayOf sheet limit full) i (heldOf (now (cells .entry)) n top count) byte) r ⌝ }
+    ensures { λ r. ⌜ Follows (now (index .exit)) (now (cells .exit)) r ⌝ }
 {
     let v = load(cells, i);
-    let derived = derive_vector(cells, top, v, n, byte);
+    let derived = derive_vector(index, cells, top, v, n, byte);
     if derived.long {
         return Stepped::Stopped(Refusal::Long(i));
     }
@@ -58,6 +62,7 @@ pub fn step(
 pub fn hold_first(cells: &mut [u64], top: usize, n: usize, v: Vector) -> Stepped
     requires { ⌜ First (now cells) n top (v .at) ⌝ }
     ensures { λ r. ⌜ Begins (now (cells .entry)) n (v .at) (now (cells .exit)) r ⌝ }
+    ensures { λ r. ⌜ Keeps (now (cells .entry)) top (now (cells .exit)) r ⌝ }
 {
     if POOL < top {
         return Stepped::Stopped(Refusal::Pool(0));

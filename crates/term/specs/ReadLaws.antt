@@ -168,7 +168,7 @@ kinds-more (Re.Cat a b) y e = rw e
 kinds-more (Re.Alt a b) y e = rw e
 kinds-more (Re.Star a) y e = rw e
 
-kind-grow : (u : Term) (f : ℕ → Re) → kind (grow u f) ≡ kindOf u
+pub kind-grow : (u : Term) (f : ℕ → Re) → kind (grow u f) ≡ kindOf u
 kind-grow Nothing f = refl
 kind-grow Empty f = refl
 kind-grow (Range lo hi) f = refl
@@ -177,7 +177,7 @@ kind-grow (Alt a b) f = refl
 kind-grow (Star a) f = refl
 
 -- a node from its parts, so that its kind tells its form
-abbrev rebuilt : ℕ → ℕ → ℕ → Term
+abbrev pub rebuilt : ℕ → ℕ → ℕ → Term
 rebuilt k a b =
     cond (eqb k 0) Nothing
     (cond (eqb k 1) Empty
@@ -186,7 +186,7 @@ rebuilt k a b =
     (cond (eqb k 4) (Alt a b)
     (Star a)))))
 
-rebuild : (u : Term) → u ≡ rebuilt (kindOf u) (firstOf u) (secondOf u)
+pub rebuild : (u : Term) → u ≡ rebuilt (kindOf u) (firstOf u) (secondOf u)
 rebuild Nothing = refl
 rebuild Empty = refl
 rebuild (Range lo hi) = refl
@@ -194,7 +194,7 @@ rebuild (Cat a b) = refl
 rebuild (Alt a b) = refl
 rebuild (Star a) = refl
 
-of-kind : (u : Term) (k : ℕ) → kindOf u ≡ k → u ≡ rebuilt k (firstOf u) (secondOf u)
+pub of-kind : (u : Term) (k : ℕ) → kindOf u ≡ k → u ≡ rebuilt k (firstOf u) (secondOf u)
 of-kind u k e = rw (← e) (rebuild u)
 
 order-ranges : (u v : Term) (f : ℕ → Re) (a b a′ b′ : ℕ) → u ≡ Range a b → v ≡ Range a′ b′

@@ -11,6 +11,7 @@ ghost use Rattle.meaning.specs.Order.{order, also};
 ghost use Rattle.term.specs.Cells.{fieldSize, kindSize, packed, nodeOf, cellOf, term, Below, Sound};
 ghost use Rattle.term.specs.Nodes.{kindOf, firstOf, secondOf, nothingNode, emptyNode, ordering, Fields, Pushed};
 use number::limits::TREE_NODES;
+use number::limits::WORK_CELLS;
 
 // A node of a term: a range's bounds, or the numbers of the cells of its children.
 pub enum Term {
@@ -32,7 +33,7 @@ pub enum Order {
 // The packing of a cell: the kind lowest, then two fields, each as wide as a cell's number; what is above stays free.
 const KIND_SIZE: u64 = 8;
 
-const FIELD_SIZE: u64 = 65536;
+const FIELD_SIZE: u64 = WORK_CELLS as u64;
 
 // The places of two kinds in the order: those before a range have no parts.
 const RANGE: usize = 2;

@@ -22,7 +22,7 @@ use Rattle.meaning.specs.Shape.{InShape}
 use Rattle.meaning.specs.ShapeLaws.{shape-deriv}
 use Rattle.meaning.specs.SizeLaws.{short-size}
 use Rattle.term.specs.Cells.{term, Sound}
-use Rattle.term.specs.Area.{Grown, Room}
+use Rattle.term.specs.Area.{Grown}
 use Rattle.term.specs.CellLaws.{Same, frame, sound-less}
 use Rattle.normal.specs.declared.Made.{Made}
 use Rattle.normal.specs.declared.Made.the-variants.{Long as Made·long}
@@ -34,7 +34,9 @@ use Rattle.walk.specs.Vectors.Vector.{TooLong, Terms}
 use Rattle.walk.specs.Parts.{withParts, withVector}
 use Rattle.walk.specs.PartsLaws.{Part, Held, parts-hold}
 use Rattle.walk.specs.PartsLaws.Part.{whole, cat-left, cat-right, alt-left, alt-right, star-in}
-use Rattle.pool.specs.Pooled.{termsOf, Pool, Pooled, Put}
+use Rattle.pool.specs.Pooled.{termsOf, Pool}
+use Rattle.pool.specs.Index.{Indexed, Open, Put}
+use Rattle.pool.specs.IndexLaws.{indexed-same}
 use Rattle.pool.specs.PoolLaws.{terms-frame, held-stands, term-held-below, pooled, pool-same, pool-as}
 use Rattle.vector.specs.Layout.{nothingCell}
 use Rattle.vector.specs.Vectors.{vectorOf}
@@ -93,7 +95,7 @@ part-size (alt-right p) = omega (arith, part-size p)
 part-size (star-in p) = omega (arith, part-size p)
 
 -- a pool with one more term in shape is in shape
-shaped-put : (s : List ℕ) (top : ℕ) (s′ : List ℕ) (top′ : ℕ) (x : Re) → Shaped s top → Pool s′ top′ (withParts (termsOf s top) x) → InShape x
+pub shaped-put : (s : List ℕ) (top : ℕ) (s′ : List ℕ) (top′ : ℕ) (x : Re) → Shaped s top → Pool s′ top′ (withParts (termsOf s top) x) → InShape x
     → short x ≡ true → Shaped s′ top′
 shaped-put s top s′ top′ x old p f b i h =
     let held : Held (withParts (termsOf s top) x) (term s′ i) = rw (p .holds) at (term-held-below s′ top′ i h) in
@@ -139,7 +141,7 @@ derived-long c (r ∷ rs) (suc k) h e = rw (derived-long c rs k (omega arith) e)
     front-long Long = refl
     front-long (Fits x) = refl
 
-with-snoc : (p xs : List Re) (x : Re) → withVector p (xs ++ (x ∷ [])) ≡ withParts (withVector p xs) x
+pub with-snoc : (p xs : List Re) (x : Re) → withVector p (xs ++ (x ∷ [])) ≡ withParts (withVector p xs) x
 unfolding withVector
 with-snoc p [] x = refl
 with-snoc p (r ∷ xs) x = with-snoc (withParts p r) xs x
@@ -151,22 +153,24 @@ map-snoc f (y ∷ xs) x = ap (λ (l : List Re). f y ∷ l) (map-snoc f xs x)
 vector-next : (s : List ℕ) (i : ℕ) (v : List ℕ) → i < length v → vectorOf s (i + 1) v ≡ vectorOf s i v ++ (term s (getD v i 0) ∷ [])
 vector-next s i v h = rw (add-one, take-suc v i 0 h) (map-snoc (term s) (take i v) (getD v i 0))
 
-vector-set : (s : List ℕ) (i : ℕ) (w : List ℕ) (a : ℕ) → i < length w → vectorOf s (i + 1) (set w i a) ≡ vectorOf s i w ++ (term s a ∷ [])
+pub vector-set : (s : List ℕ) (i : ℕ) (w : List ℕ) (a : ℕ) → i < length w → vectorOf s (i + 1) (set w i a) ≡ vectorOf s i w ++ (term s a ∷ [])
 vector-set s i w a h = rw (add-one, take-suc-set w i a h) (map-snoc (term s) (take i w) a)
 
 -- ---- the loop over the places
 
 -- the first i places are done
-pub record Going (s : List ℕ) (top n : ℕ) (v : List ℕ) (byte : ℕ) (s₁ : List ℕ) (next : ℕ) (to : List ℕ) (i : ℕ) : Type 0 where
+pub record Going (s : List ℕ) (top n : ℕ) (v : List ℕ) (byte : ℕ) (x₁ s₁ : List ℕ) (next : ℕ) (to : List ℕ) (i : ℕ) : Type 0 where
   pub within : i ≤ n
+  pub indexed : Indexed x₁ s₁ next
   pub spared : Spared s top s₁
   pub done : Done s top i v byte s₁ next to
 
-pub going-first : {s : List ℕ} {top n : ℕ} {v : List ℕ} (byte : ℕ) (to : List ℕ) → Derivable s top n v → length to ≡ rules
-    → ((i : ℕ) → i < rules → getD to i 0 ≡ nothingCell) → Going s top n v byte s top to 0
+pub going-first : {x s : List ℕ} {top n : ℕ} {v : List ℕ} (byte : ℕ) (to : List ℕ) → Derivable x s top n v → length to ≡ rules
+    → ((i : ℕ) → i < rules → getD to i 0 ≡ nothingCell) → Going s top n v byte x s top to 0
 unfolding derived withVector
 going-first byte to d l p = record {
   within = omega arith;
+  indexed = d .indexed;
   spared = record { same-length = refl; kept-below = λ i h. refl; kept-above = λ i h. refl };
   done = record {
     terms = refl;
@@ -179,14 +183,13 @@ going-first byte to d l p = record {
 }
 
 -- what put_term asks
-pub record Puts (s : List ℕ) (top root : ℕ) : Type 0 where
-  pub pooled : Pooled s top
+pub record Puts (x s : List ℕ) (top root : ℕ) : Type 0 where
+  pub ready : Open x s top treeNodes
   pub sound : Sound s (root + 1)
   pub small : size (term s root) ≤ treeNodes
-  pub room : Room s top treeNodes
 
-module _ {s : List ℕ} {top n : ℕ} {v : List ℕ} {byte : ℕ} {s₁ : List ℕ} {next : ℕ} {to : List ℕ} {i : ℕ}
-    (d : Derivable s top n v) (g : Going s top n v byte s₁ next to i) (h : i < n) where
+module _ {x s : List ℕ} {top n : ℕ} {v : List ℕ} {byte : ℕ} {x₁ s₁ : List ℕ} {next : ℕ} {to : List ℕ} {i : ℕ}
+    (d : Derivable x s top n v) (g : Going s top n v byte x₁ s₁ next to i) (h : i < n) where
   -- the next term is one of the old pool's
   old-held : getD v i 0 < next
   old-held = omega (arith, d .numbers .inside i h, g .done .up)
@@ -259,17 +262,21 @@ module _ {s : List ℕ} {top n : ℕ} {v : List ℕ} {byte : ℕ} {s₁ : List �
     grown : Grown s₁ next s₂ above
     grown = o .makes .grown
 
-    pub place-puts : Puts s₂ next root
+    pub place-puts : Puts x₁ s₂ next root
     place-puts = record {
-      pooled = pooled (pool-same s₂ (g .done .pooled) (grown .kept-below) (grown .same-length));
+      ready = record {
+        pooled = pooled (pool-same s₂ (g .done .pooled) (grown .kept-below) (grown .same-length));
+        indexed = indexed-same s₂ (g .indexed) (grown .kept-below);
+        room = omega (arith, low, d .long, g .spared .same-length, grown .same-length);
+        inside = low;
+      };
       sound = sound-less (root + 1) (grown .sound) (omega (arith, o .makes .within));
       small = new-size;
-      room = omega (arith, low, d .long, g .spared .same-length, grown .same-length);
     }
 
     -- and put into the pool
-    module _ {s₃ : List ℕ} {root′ next′ : ℕ}
-        (p : Put s₂ next (termsOf s₂ next) s₃ root′ next′ (term s₂ root) (next + size (term s₂ root))) where
+    module _ {x₃ s₃ : List ℕ} {root′ next′ : ℕ}
+        (p : Put s₂ next (termsOf s₂ next) x₃ s₃ root′ next′ (term s₂ root) (next + size (term s₂ root))) where
       on : Same s₁ s₃ next
       on j k = p .kept-below j k ∙ grown .kept-below j k
 
@@ -296,9 +303,10 @@ module _ {s : List ℕ} {top n : ℕ} {v : List ℕ} {byte : ℕ} {s₁ : List �
           rw (vector-now, with-snoc (termsOf s top) (vectorOf s₁ i to) (o .value))
           (ap (λ (l : List Re). withParts l (o .value)) (g .done .pooled .holds))
 
-      pub place-more : Going s top n v byte s₃ next′ (set to i root′) (i + 1)
+      pub place-more : Going s top n v byte x₃ s₃ next′ (set to i root′) (i + 1)
       place-more = record {
         within = omega arith;
+        indexed = p .indexed;
         spared = spared-on s₃ (p .same-length ∙ grown .same-length) on
             (λ j k. p .kept-above j (omega (arith, low, new-size)) ∙ grown .kept-above j (omega (arith, used, o .makes .few)));
         done = record {

@@ -1,23 +1,16 @@
 -- How the work area is laid out: the pool with the scratch above it, a cell that holds Nothing, and what is known of each held item.
 -- src/layout.rt holds the same numbers for the code. The length is the one that build and compare ask for.
 use Prim.Native.Nat.{ℕ, _+_, _*_}
-use Rattle.number.specs.Limits.{pool, rules, treeNodes, pairs}
+use Rattle.number.specs.Limits.{rules, pairs, scratch}
+use Rattle.pool.specs.Index.{poolCells}
 
--- the pool: what may be held, and one vector more that is not held yet
-abbrev pub poolCells : ℕ
-poolCells = pool + rules * treeNodes
-
--- the scratch above it: enough for a derivative and for a rule's normal form
-abbrev pub scratchCells : ℕ
-scratchCells = 34816
-
--- a cell that always holds Nothing: what the places past the last rule hold
+-- above the pool and the scratch, a cell that always holds Nothing: what the places past the last rule hold
 abbrev pub nothingCell : ℕ
-nothingCell = poolCells + scratchCells
+nothingCell = poolCells + scratch
 
 -- of each item: its 32 numbers, its sheet state, the item it was found from and the byte
 abbrev pub vectorsAt : ℕ
-vectorsAt = nothingCell + 32
+vectorsAt = nothingCell + rules
 
 abbrev pub sheetsAt : ℕ
 sheetsAt = vectorsAt + pairs * rules

@@ -12,8 +12,9 @@ use Rattle.meaning.specs.Limited.{short}
 use Rattle.meaning.specs.Shape.{InShape}
 use Rattle.term.specs.Cells.{term}
 use Rattle.pool.specs.Pooled.{termsOf, Pool}
+use Rattle.pool.specs.Index.{poolCells}
 use Rattle.walk.specs.Walk.{Item, Held}
-use Rattle.vector.specs.Layout.{poolCells, nothingCell, vectorsAt, sheetsAt, parentsAt, bytesAt, workLength}
+use Rattle.vector.specs.Layout.{nothingCell, vectorsAt, sheetsAt, parentsAt, bytesAt, workLength}
 use Rattle.vector.specs.Vectors.{vectorOf, Numbers}
 
 -- the 32 numbers of item k

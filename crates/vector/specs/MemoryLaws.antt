@@ -12,7 +12,7 @@ use borrow.Author.Count.{below-more}
 use lib.Dec.{eqb·suc-zero}
 use lib.ListN.{length, getD, take, drop, length-append, length-take, length-drop, length-set, List·getD-append}
 use lib.Seq.{paste, ext-getD, getD-at, getD-take, getD-drop, getD-set-same, getD-set-other, drop-paste, length-paste, length-paste-head, length-take-le, drop-at, take-at, take-all}
-use Rattle.number.specs.Limits.{rules, pairs, bytes, pool}
+use Rattle.number.specs.Limits.{rules, pairs, bytes}
 use Rattle.meaning.specs.Re.{Re, Text}
 use Rattle.meaning.specs.Re.Re.{Nothing}
 use Rattle.term.specs.Cells.{term, Sound}
@@ -21,7 +21,8 @@ use Rattle.pool.specs.Pooled.{termsOf, Pooled}
 use Rattle.pool.specs.PoolLaws.{terms-frame, same-number, pooled, pool-same}
 use Rattle.walk.specs.Walk.{Item, none, samePair, numberIn}
 use Rattle.walk.specs.StepLaws.{Pair, pair-same, same-pair}
-use Rattle.vector.specs.Layout.{poolCells, nothingCell, vectorsAt, sheetsAt, parentsAt, bytesAt}
+use Rattle.pool.specs.Index.{poolCells}
+use Rattle.vector.specs.Layout.{nothingCell, vectorsAt, sheetsAt, parentsAt, bytesAt}
 use Rattle.vector.specs.Vectors.{vectorOf, Numbers}
 use Rattle.vector.specs.Memory.{numbersAt, textBy, textOf, itemOf, itemsOf, Shaped, Kept}
 use Rattle.vector.specs.Promises.{Reads, Spared, Finds, vectorStored, sheetStored, parentStored, itemStored}
@@ -283,7 +284,7 @@ module _ (s : List ℕ) (n top k : ℕ) (v : List ℕ) (sheet parent byte : ℕ)
   }
 
   -- the cells of the pool, and Nothing's
-  stored-low : Same s s′ top
+  pub stored-low : Same s s′ top
   stored-low i h = stored-before i (omega (arith, kept .top-fits))
 
   pub stored-terms : termsOf s′ top ≡ termsOf s top

@@ -9,6 +9,7 @@ use lib.Seq.{paste}
 use Rattle.number.specs.Limits.{rules, treeNodes, pool, pairs}
 use Rattle.term.specs.Cells.{Sound}
 use Rattle.pool.specs.Pooled.{termsOf, Pool, Pooled}
+use Rattle.pool.specs.Index.{Indexed}
 use Rattle.walk.specs.Vectors.{derived}
 use Rattle.walk.specs.Vectors.Vector.{TooLong, Terms}
 use Rattle.walk.specs.Parts.{withVector}
@@ -33,8 +34,9 @@ pub record Reads (s : List ℕ) (n : ℕ) (v : List ℕ) : Type 0 where
   pub whole : length v ≡ rules
   pub sound : (i : ℕ) → i < n → Sound s (getD v i 0 + 1)
 
--- a vector of pool terms to derive
-pub record Derivable (s : List ℕ) (top n : ℕ) (v : List ℕ) : Type 0 where
+-- a vector of pool terms to derive, with the pool's index
+pub record Derivable (x s : List ℕ) (top n : ℕ) (v : List ℕ) : Type 0 where
+  pub indexed : Indexed x s top
   pub long : workLength ≤ length s
   pub few-rules : n ≤ rules
   pub pooled : Pooled s top
@@ -57,10 +59,11 @@ pub record Spared (s : List ℕ) (top : ℕ) (s′ : List ℕ) : Type 0 where
   pub kept-below : (i : ℕ) → i < top → getD s′ i 0 ≡ getD s i 0
   pub kept-above : (i : ℕ) → nothingCell ≤ i → getD s′ i 0 ≡ getD s i 0
 
-pub record Derives (s : List ℕ) (top n : ℕ) (v : List ℕ) (byte : ℕ) (s′ : List ℕ) (r : Derived) : Type 0 where
+pub record Derives (s : List ℕ) (top n : ℕ) (v : List ℕ) (byte : ℕ) (x′ s′ : List ℕ) (r : Derived) : Type 0 where
   pub spared : Spared s top s′
   pub too-long : r .long ≡ true → derived byte (vectorOf s n v) ≡ TooLong
   pub done : r .long ≡ false → Done s top n v byte s′ (r .top) (r .vector .at)
+  pub indexed : r .long ≡ false → Indexed x′ s′ (r .top)
 
 -- item k has this sheet state and these numbers
 pub record IsPair (s : List ℕ) (k sheet : ℕ) (v : List ℕ) : Type 0 where

@@ -1,17 +1,13 @@
 // How the work area is laid out; specs/Layout.antt says what each part is for and holds the same numbers for the definitions.
 // The length is the one that build and compare ask for.
 use number::limits::PAIRS;
-use number::limits::POOL;
 use number::limits::RULES;
-use number::limits::TREE_NODES;
+use number::limits::SCRATCH;
+use pool::POOL_CELLS;
 
-pub const POOL_CELLS: usize = POOL + RULES * TREE_NODES;
+pub const NOTHING_CELL: usize = POOL_CELLS + SCRATCH;
 
-pub const SCRATCH_CELLS: usize = 34816;
-
-pub const NOTHING_CELL: usize = POOL_CELLS + SCRATCH_CELLS;
-
-pub const VECTORS_AT: usize = NOTHING_CELL + 32;
+pub const VECTORS_AT: usize = NOTHING_CELL + RULES;
 
 pub const SHEETS_AT: usize = VECTORS_AT + PAIRS * RULES;
 

@@ -2,7 +2,7 @@
 // A derived term is built in scratch, put into the pool, and its number taken: equal vectors have equal numbers.
 ghost use mathlib.Core.Path.{_≡_};
 ghost use Prim.Native.Nat.{_≤_};
-ghost use lib.ListN.{length};
+ghost use lib.ListN.{length, replicate};
 ghost use Rattle.vector.specs.Layout.{workLength};
 ghost use Rattle.number.specs.Limits.{pairs, lastByte};
 ghost use Rattle.meaning.specs.Rules.{label};
@@ -24,7 +24,7 @@ use layout::VECTORS_AT;
 
 // A vector: the numbers of its 32 terms, one for each rule.
 pub struct Vector {
-    pub at: [usize; 32],
+    pub at: [usize; RULES],
 }
 
 // A derived vector with the pool's next free cell, or that a term on the way was too long.
@@ -55,7 +55,7 @@ pub fn load(cells: &[u64], k: usize) -> Vector
     requires { ⌜ Within (now cells) k ⌝ }
     ensures { λ r. ⌜ r .at ≡ numbersAt (now (cells .entry)) k ⌝ }
 {
-    let mut to = [0usize; 32];
+    let mut to = [0usize; RULES];
     let mut i: usize = 0;
     while i < RULES {
         to[i] = cells[VECTORS_AT + k * RULES + i] as usize;
@@ -114,12 +114,19 @@ pub fn edge_of(cells: &[u64], v: Vector, n: usize, byte: usize) -> usize
 }
 
 // The vector after `byte`: each of the first `n` terms derived above the pool and put into it. The pool of a vector that is Long is given up.
-pub fn derive_vector(cells: &mut [u64], top: usize, v: Vector, n: usize, byte: usize) -> Derived
-    requires { ⌜ Derivable (now cells) top n (v .at) ⌝ }
-    ensures { λ r. ⌜ Derives (now (cells .entry)) top n (v .at) byte (now (cells .exit)) r ⌝ }
+pub fn derive_vector(
+    index: &mut [usize],
+    cells: &mut [u64],
+    top: usize,
+    v: Vector,
+    n: usize,
+    byte: usize,
+) -> Derived
+    requires { ⌜ Derivable (now index) (now cells) top n (v .at) ⌝ }
+    ensures { λ r. ⌜ Derives (now (cells .entry)) top n (v .at) byte (now (index .exit)) (now (cells .exit)) r ⌝ }
 {
     let from = v.at;
-    let mut to = [NOTHING_CELL; 32];
+    let mut to = [NOTHING_CELL; RULES];
     let mut next = top;
     let mut i: usize = 0;
     while i < n {
@@ -130,7 +137,7 @@ pub fn derive_vector(cells: &mut [u64], top: usize, v: Vector, n: usize, byte: u
                 vector: v,
             };
         };
-        let placed = pool::put_term(cells, next, root);
+        let placed = pool::put_term(index, cells, next, root);
         to[i] = placed.root;
         next = placed.top;
         i += 1;
@@ -178,4 +185,15 @@ pub fn store_item(cells: &mut [u64], k: usize, v: Vector, sheet: usize, parent: 
     cells[SHEETS_AT + k] = sheet as u64;
     cells[PARENTS_AT + k] = parent as u64;
     cells[BYTES_AT + k] = byte as u64;
+}
+
+// Makes every cell of the work area 0.
+pub fn clear(cells: &mut [u64])
+    ensures { λ _. ⌜ now (cells .exit) ≡ replicate (length (now (cells .entry))) 0 ⌝ }
+{
+    let mut i: usize = 0;
+    while i < cells.len() {
+        cells[i] = 0;
+        i += 1;
+    }
 }

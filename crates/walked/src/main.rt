@@ -1,8 +1,9 @@
-// Builds and compares the stored books and sheets, which stand at each limit and just past it, and prints what came.
-// The stored output was made by the model in model/, which knows nothing of this code; docs/WALKED.md says what each case is.
+// Builds each stored book, cuts the stored text by its table, compares the book with the stored sheet, and prints what came.
+// Cases and expected output were made by the model in model/, which knows nothing of this code; docs/WALKED.md says what they are.
 ghost use Prim.Native.Nat.{_≤_};
 ghost use lib.ListN.{length};
 use comparing::Compared;
+use cutting::Ended;
 use libc::STDOUT_FILENO;
 use lines::LINE_ROOM;
 use number::Refusal;
@@ -12,12 +13,20 @@ use number::limits::SHOWN_TEXT;
 use number::limits::STATES;
 use number::limits::TABLE_CELLS;
 use table::Counted;
+use table::Written;
 use vector::layout::WORK_LENGTH;
 
-// How many cases are stored.
-const CASES: usize = 110;
+// Cases have numbers of three digits.
+const NUMBERS: usize = 1000;
 
-// A file of a case, c000.book or c000.sheet, into a buffer; the bytes that were read.
+// The longest stored text, and room for so few words that some cuts are full.
+const TEXT: usize = 512;
+
+const WORDS: usize = 6;
+
+const RECORD_CELLS: usize = 3;
+
+// A file of a case, as c000.book, into a buffer; the bytes that were read.
 fn read_case(name: &[u8], buffer: &mut [u8]) -> usize
     ensures { λ n. ⌜ n ≤ length (now (buffer .exit)) ⌝ }
 {
@@ -28,6 +37,15 @@ fn read_case(name: &[u8], buffer: &mut [u8]) -> usize
     let n = io::read_full(fd, buffer);
     libc::close(fd);
     n
+}
+
+fn is_stored(name: &[u8]) -> bool {
+    let fd = os::open_read(name);
+    if fd < 0 {
+        return false;
+    }
+    libc::close(fd);
+    true
 }
 
 fn digit(n: usize) -> u8 {
@@ -48,17 +66,84 @@ fn say_number(n: usize) {
     io::print_decimal(STDOUT_FILENO, n as u64);
 }
 
-// The build of a book: its states, or why there are none.
-fn build_case(name: &[u8]) {
-    let mut book = [0u8; BOOK_FILE + 1];
+fn say_word(start: usize, length: usize, rule: usize) {
+    say_number(start);
+    say(b" ");
+    say_number(length);
+    say(b" ");
+    say_number(rule);
+    say(b"\n");
+}
+
+// The words that were put into the records, a line each.
+fn say_words(records: &[usize; WORDS * RECORD_CELLS], n: usize) {
+    let mut k: usize = 0;
+    while k < WORDS {
+        if k < n {
+            let at = k * RECORD_CELLS;
+            say_word(records[at], records[at + 1], records[at + 2]);
+        }
+        k += 1;
+    }
+}
+
+fn say_end(how: &[u8], n: usize, at: usize) {
+    say(how);
+    say_number(n);
+    say(b" ");
+    say_number(at);
+    say(b"\n");
+}
+
+// A text by a table, as far as the records go.
+fn cut_case<'a>(count: usize, labels: &'a [u8], targets: &'a [u8], name: &[u8]) {
+    let mut text = [0u8; TEXT];
+    let mut records = [0usize; WORDS * RECORD_CELLS];
+    let length = read_case(name, &mut text);
+    match cutting::cut_from(count, labels, targets, &text[0..length], 0, &mut records) {
+        Ended::Done(n) => {
+            say_words(&records, n);
+            say(b"done ");
+            say_number(n);
+            say(b"\n");
+        }
+        Ended::Stuck(n, at) => {
+            say_words(&records, n);
+            say_end(b"stuck ", n, at);
+        }
+        Ended::Full(n, at) => {
+            say_words(&records, n);
+            say_end(b"full ", n, at);
+        }
+        Ended::Refused(r) => say_refused(r),
+    }
+}
+
+// A table's states and the length of its sheet.
+fn say_table<'a>(count: usize, labels: &'a [u8], targets: &'a [u8]) {
+    let mut sheet = [0u8; SHEET_FILE];
+    say_number(count);
+    say(b" states, ");
+    match table::write_sheet(count, labels, targets, &mut sheet) {
+        Written::Bytes(n) => {
+            say_number(n);
+            say(b" bytes\n");
+        }
+        Written::Unwritten(r) => say_refused(r),
+    }
+}
+
+// The build of a book: its table and the cut by it, or why there is none.
+fn build_case(book_name: &[u8], text_name: &[u8]) {
+    let mut book = [0u8; BOOK_FILE];
     let mut labels = [0u8; STATES];
     let mut targets = [0u8; TABLE_CELLS];
     let mut work = [0u64; WORK_LENGTH];
-    let n = read_case(name, &mut book);
+    let n = read_case(book_name, &mut book);
     match building::build(&book[0..n], &mut labels, &mut targets, &mut work) {
         Counted::States(count) => {
-            say_number(count);
-            say(b" states\n");
+            say_table(count, &labels, &targets);
+            cut_case(count, &labels, &targets, text_name);
         }
         Counted::Refused(r) => say_refused(r),
     }
@@ -98,10 +183,10 @@ fn say_compared(answer: Compared, text: &[u8]) {
     }
 }
 
-// A book against a sheet, by the book's faults, the sheet's, and the walk.
+// A book against a sheet: the sheet's faults come first, since it is loaded first; then the book's, then the walk's.
 fn compare_case(book_name: &[u8], sheet_name: &[u8]) {
-    let mut book = [0u8; BOOK_FILE + 1];
-    let mut sheet = [0u8; SHEET_FILE + 1];
+    let mut book = [0u8; BOOK_FILE];
+    let mut sheet = [0u8; SHEET_FILE];
     let mut labels = [0u8; STATES];
     let mut targets = [0u8; TABLE_CELLS];
     let mut text = [0u8; SHOWN_TEXT];
@@ -124,22 +209,31 @@ fn compare_case(book_name: &[u8], sheet_name: &[u8]) {
     }
 }
 
-fn run_case(k: usize) {
+// Runs a case, and answers whether there was one.
+fn run_case(k: usize) -> bool {
     let a = digit(k / 100);
     let b = digit(k / 10);
     let c = digit(k);
+    let book_name = [b'c', a, b, c, b'.', b'b', b'o', b'o', b'k'];
+    if !is_stored(&book_name) {
+        return false;
+    }
     say(&[a, b, c, b' ']);
-    build_case(&[b'c', a, b, c, b'.', b'b', b'o', b'o', b'k']);
+    build_case(&book_name, &[b'c', a, b, c, b'.', b't', b'e', b'x', b't']);
     compare_case(
-        &[b'c', a, b, c, b'.', b'b', b'o', b'o', b'k'],
+        &book_name,
         &[b'c', a, b, c, b'.', b's', b'h', b'e', b'e', b't'],
     );
+    true
 }
 
+// The first number without a book ends the run.
 fn main() {
     let mut k: usize = 0;
-    while k < CASES {
-        run_case(k);
+    while k < NUMBERS {
+        if !run_case(k) {
+            return;
+        }
         k += 1;
     }
 }

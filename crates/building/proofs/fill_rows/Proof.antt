@@ -10,25 +10,29 @@ use Rattle.walk.specs.Walk.{rows}
 use Rattle.vector.specs.Memory.{heldOf}
 use Rattle.building.specs.Build.{alone}
 use Rattle.building.specs.FillLaws.{Rowing, rowing-first, rowing-fillable, rowing-stop, rowing-more, rowing-end}
+use Rattle.pool.specs.Index.{Indexed}
+use Rattle.steps.specs.CallLaws.{followed}
 use Rattle.building.proofs.fill_rows.Statement.{statement}
 use Rattle.building.proofs.fill_rows.Tie as tie
 
 abbrev Inv-loop : tie.InvT-loop
-Inv-loop cells₀ top count n targets₀ next₀ held₀ i₀ cells targets next held i =
+Inv-loop index₀ cells₀ top count n targets₀ next₀ held₀ i₀ index cells targets next held i =
     (length cells ≡ length cells₀)
     × (length targets ≡ length targets₀)
     × Rowing count (rows alone states 0 (heldOf cells₀ n top count)) targets₀ cells n next held i targets
+    × (length index ≡ length index₀)
+    × Indexed index cells next
 
 abbrev μ-loop : tie.MeasureT-loop
-μ-loop cells₀ top count n targets₀ next₀ held₀ i₀ cells targets next held i = states - i
+μ-loop index₀ cells₀ top count n targets₀ next₀ held₀ i₀ index cells targets next held i = states - i
 
 loop-holds : tie.Need-loop-holds Inv-loop μ-loop
-loop-holds c = (refl, refl, rowing-first (c .before .before .pre))
+loop-holds c = (refl, refl, rowing-first (c .before .before .before .pre .0), refl, c .before .before .before .pre .1)
 
 fill-row-requires : tie.Need-fill-row-requires Inv-loop μ-loop
 fill-row-requires c κs =
-    let l = c .before .before .before .loop in
-    (rowing-fillable (l .inv .2) (omega (arith, l .inv .1, c .before .before .before .before .before .before .pre .room)), c .before .before .loop-test .taken)
+    let l = c .before .before .before .before .loop in
+    (rowing-fillable (l .inv .2) (omega (arith, l .inv .1, c .before .before .before .before .before .before .before .before .pre .0 .room)), (c .before .before .before .loop-test .taken, l .inv .4))
 
 enum-known-made : tie.Need-enum-known-made Inv-loop μ-loop
 enum-known-made c = search needs
@@ -42,28 +46,36 @@ same-length c = search needs
 same-length-2 : tie.Need-same-length-2 Inv-loop μ-loop
 same-length-2 c = search needs
 
+same-length-3 : tie.Need-same-length-3 Inv-loop μ-loop
+same-length-3 c = search needs
+
 returns : tie.Need-returns Inv-loop μ-loop
 returns c =
-    record { comes = rowing-stop (c .before .before .before .before .before .before .before .before .before .before .loop .inv .2) (c .before .before .before .before .before .before .before .before .before .loop-test .taken) (c .before .before .before .before .before .before .fill-row .ensures) (c .enum-told .given .1) }
+    record { comes = rowing-stop (c .before .before .before .before .before .before .before .before .before .before .before .before .before .loop .inv .2) (c .before .before .before .before .before .before .before .before .before .before .before .before .loop-test .taken) (c .before .before .before .before .before .before .before .before .fill-row .ensures .0) (c .enum-told .given .1) }
 
 add-i : tie.Need-add-i Inv-loop μ-loop
-add-i c = omega (arith, c .before .before .before .before .before .before .before .before .before .before .before .loop .inv .2 .few)
+add-i c = omega (arith, c .before .before .before .before .before .before .before .before .before .before .before .before .before .before .loop .inv .2 .few)
 
 loop-less : tie.Need-loop-less Inv-loop μ-loop
-loop-less c = omega (arith, c .before .before .before .before .before .before .before .before .before .before .before .loop .inv .2 .few)
+loop-less c = omega (arith, c .before .before .before .before .before .before .before .before .before .before .before .before .before .before .loop .inv .2 .few)
 
 loop-again : tie.Need-loop-again Inv-loop μ-loop
 loop-again c = (
   search needs,
   search needs,
-  rowing-more (c .before .before .before .before .before .before .before .before .before .before .before .loop .inv .2) (c .before .before .before .before .before .before .before .before .before .before .loop-test .taken) (c .before .before .before .before .before .before .before .fill-row .ensures) (c .before .made .given .1),
+  rowing-more (c .before .before .before .before .before .before .before .before .before .before .before .before .before .before .loop .inv .2) (c .before .before .before .before .before .before .before .before .before .before .before .before .before .loop-test .taken) (c .before .before .before .before .before .before .before .before .before .fill-row .ensures .0) (c .before .made .given .1),
+  search needs,
+  followed (c .before .before .before .before .before .before .before .before .before .fill-row .ensures .1) (c .before .made .given .1),
 )
-
-same-length-3 : tie.Need-same-length-3 Inv-loop μ-loop
-same-length-3 c = search needs
 
 same-length-4 : tie.Need-same-length-4 Inv-loop μ-loop
 same-length-4 c = search needs
+
+same-length-5 : tie.Need-same-length-5 Inv-loop μ-loop
+same-length-5 c = search needs
+
+same-length-6 : tie.Need-same-length-6 Inv-loop μ-loop
+same-length-6 c = search needs
 
 returns-2 : tie.Need-returns-2 Inv-loop μ-loop
 returns-2 c = record { comes = rowing-end (c .before .loop .inv .2) 0 (c .loop-test .left) }
@@ -80,10 +92,12 @@ fill-rows-spec =
     enum-told
     same-length
     same-length-2
+    same-length-3
     returns
     add-i
     loop-less
     loop-again
-    same-length-3
     same-length-4
+    same-length-5
+    same-length-6
     returns-2)

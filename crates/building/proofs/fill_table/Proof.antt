@@ -15,7 +15,7 @@ enum-known-made-2 : tie.Need-enum-known-made-2
 enum-known-made-2 c = search needs
 
 fill-labels-requires : tie.Need-fill-labels-requires
-fill-labels-requires c κs = table-labelled (c .before .before .before .before .before .before .before .before .before .fill-rows .ensures) (c .before .before .before .made2 .given .1) (c .before .before .before .before .before .before .before .before .before .before .before .before .before .before .before .pre .1)
+fill-labels-requires c κs = table-labelled (c .before .before .before .before .before .before .before .before .before .before .before .fill-rows .ensures) (c .before .before .before .made2 .given .1) (c .before .before .before .before .before .before .before .before .before .before .before .before .before .before .before .before .before .before .before .pre .1 .0)
 
 same-length : tie.Need-same-length
 same-length c = search needs
@@ -23,11 +23,11 @@ same-length c = search needs
 same-length-2 : tie.Need-same-length-2
 same-length-2 c = search needs
 
-returns : tie.Need-returns
-returns c = table-stop (c .before .before .before .before .before .before .before .fill-rows .ensures) _ (c .before .made .given .1)
-
 same-length-3 : tie.Need-same-length-3
 same-length-3 c = search needs
+
+returns : tie.Need-returns
+returns c = table-stop (c .before .before .before .before .before .before .before .before .before .fill-rows .ensures) _ (c .before .made .given .1)
 
 same-length-4 : tie.Need-same-length-4
 same-length-4 c = search needs
@@ -35,8 +35,14 @@ same-length-4 c = search needs
 same-length-5 : tie.Need-same-length-5
 same-length-5 c = search needs
 
+same-length-6 : tie.Need-same-length-6
+same-length-6 c = search needs
+
+same-length-7 : tie.Need-same-length-7
+same-length-7 c = search needs
+
 returns-2 : tie.Need-returns-2
-returns-2 c = table-done (c .before .before .before .before .before .before .before .before .before .before .before .before .fill-rows .ensures) (c .before .before .before .before .before .before .made2 .given .1) _ (c .before .before .fill-labels .ensures)
+returns-2 c = table-done (c .before .before .before .before .before .before .before .before .before .before .before .before .before .before .fill-rows .ensures) (c .before .before .before .before .before .before .made2 .given .1) _ (c .before .before .fill-labels .ensures)
 
 pub fill-table-spec : {M : Type 1} → statement M
 fill-table-spec =
@@ -48,8 +54,10 @@ fill-table-spec =
     fill-labels-requires
     same-length
     same-length-2
-    returns
     same-length-3
+    returns
     same-length-4
     same-length-5
+    same-length-6
+    same-length-7
     returns-2)

@@ -49,13 +49,16 @@ use denote.Triple.Walked.{says, Stays, stay-slice, stay-none, stay-none-slice, w
 use denote.Exit.{yes}
 use Rattle.table.specs.Table.{lent}
 use Rattle.cutting.specs.declared.Word.{Word}
+use Rattle.cutting.specs.declared.Place.{Place}
 use Rattle.cutting.specs.declared.Step.{Step}
 use Rattle.cutting.specs.Calls.{Recorded, cutFromOf}
-use Rattle.cutting.specs.Turns.{Walkable, stepOf, firstStepOf}
+use Rattle.cutting.specs.Turns.{Ready, stepOf, firstStepOf}
 use Rattle.cutting.specs.TurnLaws.{Goes, Stands, stands-first, stands-next}
 use Rattle.cutting.specs.LayLaws.{overWords, layWords, words-none, words-put, words-whole}
 use Rattle.cutting.proofs.Word as word
 use Rattle.cutting.proofs.Word.Laws as word-laws
+use Rattle.cutting.proofs.Place as place
+use Rattle.cutting.proofs.Place.Laws as place-laws
 use Rattle.cutting.proofs.Step as step
 use Rattle.cutting.proofs.Step.Laws as step-laws
 use Rattle.cutting.proofs.Ended as answer
@@ -108,7 +111,7 @@ fn = record {
   locals =
       local answer-laws.mir valueLocal ∷ local num valueLocal ∷ local bytes-ty valueLocal ∷ local bytes-ty valueLocal ∷ local bytes-ty valueLocal
       ∷ local words-ty valueLocal ∷ local num valueLocal ∷ local num valueLocal ∷ local step-laws.mir valueLocal ∷ local word-laws.mir valueLocal
-      ∷ local num valueLocal ∷ local tyBool valueLocal ∷ local tyUnit valueLocal ∷ local ref-ty valueLocal ∷ local lent-ty valueLocal ∷ [];
+      ∷ local place-laws.mir valueLocal ∷ local tyBool valueLocal ∷ local tyUnit valueLocal ∷ local ref-ty valueLocal ∷ local lent-ty valueLocal ∷ [];
   body = body.t-1;
 }
 
@@ -217,8 +220,8 @@ module _ {M : Type 1} (𝓤 : URA M) (H : Heap 𝓤) (A : Atoms 𝓤) (W : Given
   is-word : (h : Here) → Is word.the-row (h .decided .word) (word-laws.lowered (h .decided .word) ∷ [])
   is-word h = Struct.owed step.the-type step-laws.the-laws (h .decided) _ (h .typed) .1 .0
 
-  next-fits : (h : Here) → h .decided .next < 2 ^ 64
-  next-fits h = Struct.owed step.the-type step-laws.the-laws (h .decided) _ (h .typed) .1 .1 .0 .1
+  is-next : (h : Here) → Is place.the-row (h .decided .next) (place-laws.lowered (h .decided .next) ∷ [])
+  is-next h = Struct.owed step.the-type step-laws.the-laws (h .decided) _ (h .typed) .1 .1 .0
 
   is-end : (h : Here) → Is answer.the-row (h .decided .end) (answer-laws.lowered (h .decided .end) ∷ [])
   is-end h =
@@ -248,8 +251,8 @@ module _ {M : Type 1} (𝓤 : URA M) (H : Heap 𝓤) (A : Atoms 𝓤) (W : Given
   abbrev first-args : ℕ × (RefT (List ℕ) × (RefT (List ℕ) × (RefT (List ℕ) × (ℕ × (ℕ × Unit {0})))))
   first-args = (count, (labels, (targets, (text, (0, (n, tt))))))
 
-  abbrev next-args : ℕ → ℕ → ℕ × (RefT (List ℕ) × (RefT (List ℕ) × (RefT (List ℕ) × (ℕ × (ℕ × (ℕ × Unit {0}))))))
-  next-args at k = (count, (labels, (targets, (text, (at, (k, (n, tt)))))))
+  abbrev next-args : Place → ℕ → ℕ × (RefT (List ℕ) × (RefT (List ℕ) × (RefT (List ℕ) × (Place × (ℕ × (ℕ × Unit {0}))))))
+  next-args p k = (count, (labels, (targets, (text, (p, (k, (n, tt)))))))
 
   abbrev to-first : FirstStep 𝓤 H A mem run .Ghost
   to-first = (
@@ -263,14 +266,14 @@ module _ {M : Type 1} (𝓤 : URA M) (H : Heap 𝓤) (A : Atoms 𝓤) (W : Given
     tt,
   )
 
-  abbrev to-next : ℕ → ℕ → NextStep 𝓤 H A mem run .Ghost
-  to-next at k = (
+  abbrev to-next : Place → ℕ → NextStep 𝓤 H A mem run .Ghost
+  to-next p k = (
     (
       (κ, tt),
       (q, tt),
       tt,
-      next-args at k,
-      (v-count ∷ [], (v-bytes labels ∷ [], (v-bytes targets ∷ [], (v-bytes text ∷ [], (vint w64 at ∷ [], (vint w64 k ∷ [], (vint w64 n ∷ [], tt))))))),
+      next-args p k,
+      (v-count ∷ [], (v-bytes labels ∷ [], (v-bytes targets ∷ [], (v-bytes text ∷ [], (place-laws.lowered p ∷ [], (vint w64 k ∷ [], (vint w64 n ∷ [], tt))))))),
     ),
     tt,
   )
@@ -285,13 +288,13 @@ module _ {M : Type 1} (𝓤 : URA M) (H : Heap 𝓤) (A : Atoms 𝓤) (W : Given
       owned ! usize (Is usize) (uint-makes 𝓤 H A W w64) count _ (refl, count-fits) $ fjoin ! $
       move ! (1 ∷ 0 ∷ []) $ join ! $ frame ! $ done !
 
-  goes-next : (at k : ℕ) → at < 2 ^ 64 → k < 2 ^ 64 → Walkable count (labels .now) (targets .now)
-      → ent 𝓤 (sep 𝓤 (A .lft κ q) shared) (NextStep 𝓤 H A mem run .pre (to-next at k))
-  goes-next at k at-fits k-fits walkable =
-      qed W (‵ (flft κ q) ∷ Shared ∷ []) ∵ says ! walkable $ nothing ! $ move ! (1 ∷ 0 ∷ []) $ join ! $ frame ! $ nothing ! $
+  goes-next : (p : Place) (k : ℕ) → Is place.the-row p (place-laws.lowered p ∷ []) → k < 2 ^ 64 → Ready count (labels .now) (targets .now) (p .dead)
+      → ent 𝓤 (sep 𝓤 (A .lft κ q) shared) (NextStep 𝓤 H A mem run .pre (to-next p k))
+  goes-next p k is k-fits ready =
+      qed W (‵ (flft κ q) ∷ Shared ∷ []) ∵ says ! ready $ nothing ! $ move ! (1 ∷ 0 ∷ []) $ join ! $ frame ! $ nothing ! $
       owned ! usize (Is usize) (uint-makes 𝓤 H A W w64) n _ (refl, room .0) $ fjoin ! $
       owned ! usize (Is usize) (uint-makes 𝓤 H A W w64) k _ (refl, k-fits) $ fjoin ! $
-      owned ! usize (Is usize) (uint-makes 𝓤 H A W w64) at _ (refl, at-fits) $ fjoin ! $
+      owned ! place.the-row (Is place.the-row) (Struct.makes place.the-type place-laws.the-plain 𝓤 H A) p _ is $ fjoin ! $
       move ! (1 ∷ []) $ split ! $ move ! (1 ∷ []) $ split ! $
       move ! (1 ∷ 3 ∷ []) $ fjoin ! $ move ! (1 ∷ 0 ∷ []) $ fjoin ! $ move ! (1 ∷ 0 ∷ []) $ fjoin ! $
       owned ! usize (Is usize) (uint-makes 𝓤 H A W w64) count _ (refl, count-fits) $ fjoin ! $ done !
@@ -299,15 +302,15 @@ module _ {M : Type 1} (𝓤 : URA M) (H : Heap 𝓤) (A : Atoms 𝓤) (W : Given
   abbrev firstly : Step
   firstly = firstStepOf count (labels .now) (targets .now) (text .now) 0 n
 
-  abbrev nextly : ℕ → ℕ → Step
-  nextly at k = stepOf (lent count (labels .now) (targets .now)) (text .now) at k n
+  abbrev nextly : Place → ℕ → Step
+  nextly p k = stepOf (lent count (labels .now) (targets .now)) (text .now) p k n
 
   first-said : (s : Step) → ent 𝓤 (ensured 𝓤 H A first-step.ended (first-step.clauses 𝓤 H A mem run) (κ, tt) first-args tt s) (fact 𝓤 (s ≡ firstly))
   first-said s = exE 𝓤 _ (λ ws. snd∗ 𝓤 (sem 𝓤 H A (lasts first-step.ended (κ, tt) first-args ws)) (fact 𝓤 (s ≡ firstly)))
 
-  next-said : (at k : ℕ) (s : Step)
-      → ent 𝓤 (ensured 𝓤 H A next-step.ended (next-step.clauses 𝓤 H A mem run) (κ, tt) (next-args at k) tt s) (fact 𝓤 (s ≡ nextly at k))
-  next-said at k s = exE 𝓤 _ (λ ws. snd∗ 𝓤 (sem 𝓤 H A (lasts next-step.ended (κ, tt) (next-args at k) ws)) (fact 𝓤 (s ≡ nextly at k)))
+  next-said : (p : Place) (k : ℕ) (s : Step)
+      → ent 𝓤 (ensured 𝓤 H A next-step.ended (next-step.clauses 𝓤 H A mem run) (κ, tt) (next-args p k) tt s) (fact 𝓤 (s ≡ nextly p k))
+  next-said p k s = exE 𝓤 _ (λ ws. snd∗ 𝓤 (sem 𝓤 H A (lasts next-step.ended (κ, tt) (next-args p k) ws)) (fact 𝓤 (s ≡ nextly p k)))
 
   -- a step's machine value is its lowering
   spelled : (s : Step) (v : Val) → Is step.the-row s (v ∷ []) → v ≡ step-laws.lowered s
@@ -415,7 +418,7 @@ module _ {M : Type 1} (𝓤 : URA M) (H : Heap 𝓤) (A : Atoms 𝓤) (W : Given
       abbrev En : Env 𝓤 H
       En =
           (answer-laws.mir, p-end) ∷ (num, p-count) ∷ (bytes-ty, p-labels) ∷ (bytes-ty, p-targets) ∷ (bytes-ty, p-text) ∷ (words-ty, p-words)
-          ∷ (num, p-room) ∷ (num, p-k) ∷ (step-laws.mir, p-step) ∷ (word-laws.mir, p-word) ∷ (num, p-next) ∷ (tyBool, p-go) ∷ (tyUnit, p-unit)
+          ∷ (num, p-room) ∷ (num, p-k) ∷ (step-laws.mir, p-step) ∷ (word-laws.mir, p-word) ∷ (place-laws.mir, p-next) ∷ (tyBool, p-go) ∷ (tyUnit, p-unit)
           ∷ (ref-ty, p-ref) ∷ (lent-ty, p-lent) ∷ []
 
       -- a local that holds nothing, and one that holds a value
@@ -427,7 +430,7 @@ module _ {M : Type 1} (𝓤 : URA M) (H : Heap 𝓤) (A : Atoms 𝓤) (W : Given
 
       -- the temporaries, and the parameters with the answer's place
       abbrev Temps : List (Item 𝓤) → List (Item 𝓤)
-      Temps more = Empty lent-ty p-lent (Empty ref-ty p-ref (Empty tyUnit p-unit (Empty tyBool p-go (Empty num p-next (Empty word-laws.mir p-word more)))))
+      Temps more = Empty lent-ty p-lent (Empty ref-ty p-ref (Empty tyUnit p-unit (Empty tyBool p-go (Empty place-laws.mir p-next (Empty word-laws.mir p-word more)))))
 
       abbrev Params : List (Item 𝓤) → List (Item 𝓤)
       Params more =
@@ -479,11 +482,11 @@ module _ {M : Type 1} (𝓤 : URA M) (H : Heap 𝓤) (A : Atoms 𝓤) (W : Given
           assigns ! (bin ! (load ! (from ! (stop !)) (look ! 20 refl)) (lit ! tt) (record { fits = k-fits })) (from ! (stop !))
           (store ! 20 refl (tt, record { fits = k-fits })) $
           assigns ! (of-opd ! (load ! (from ! (fld ! refl (stop !))) (look-in ! 18 (sub ! 2 refl (whole !))))) (from ! (stop !))
-          (init ! 14 refl (tt, record { fits = next-fits h })) $
+          (init ! 14 refl (Struct.lawful place.the-type place-laws.the-laws 𝓤 H A W .typed (h .decided .next) _ (is-next h) .0)) $
           -- `next_step`
           move ! (4 ∷ 5 ∷ []) $ use1 W (Shared ⊛ Shared) doubled $ split ! $ move ! (2 ∷ 0 ∷ []) $
           use2 W (raw (NextStep 𝓤 H A mem run .pre (to-next (h .decided .next) (h .k + 1))))
-          (goes-next (h .decided .next) (h .k + 1) (next-fits h) k-fits (going h g .walkable)) $
+          (goes-next (h .decided .next) (h .k + 1) (is-next h) k-fits (going h g .ready)) $
           calls-at-last ! fm (NextStep 𝓤 H A mem run) knows-next (to-next (h .decided .next) (h .k + 1))
           (and-then ! (load ! (from ! (stop !)) (look ! 32 refl)) (and-then ! (load ! (from ! (stop !)) (look ! 30 refl))
           (and-then ! (load ! (from ! (stop !)) (look ! 28 refl)) (and-then ! (load ! (from ! (stop !)) (look ! 26 refl))

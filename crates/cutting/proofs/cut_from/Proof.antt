@@ -66,17 +66,17 @@ add-k : tie.Need-add-k Inv-loop μ-loop
 add-k c = omega (arith, free c)
 
 next-step-requires : tie.Need-next-step-requires Inv-loop μ-loop
-next-step-requires c κs = c .before .before .loop .inv .1 .going (c .before .loop-test .taken) .walkable
+next-step-requires c κs = c .before .before .before .loop .inv .1 .going (c .before .before .loop-test .taken) .ready
 
 loop-less : tie.Need-loop-less Inv-loop μ-loop
-loop-less c = omega (arith, c .before .before .before .loop .inv .1 .going (c .before .before .loop-test .taken) .free)
+loop-less c = omega (arith, c .before .before .before .before .loop .inv .1 .going (c .before .before .before .loop-test .taken) .free)
 
 loop-again : tie.Need-loop-again Inv-loop μ-loop
 loop-again c =
-    let l = c .before .before .before .loop in
-    let g = l .inv .1 .going (c .before .before .loop-test .taken) in (
+    let l = c .before .before .before .before .loop in
+    let g = l .inv .1 .going (c .before .before .before .loop-test .taken) in (
       simp length-set (l .inv .0),
-      stands-next overCells layCells _ _ _ _ _ _ cells-none g _ (cells-put (l .k) (l .step .word) (l .records) (free (c .before))) _ (c .next-step .ensures),
+      stands-next overCells layCells _ _ _ _ _ _ cells-none g _ (cells-put (l .k) (l .step .word) (l .records) (free (c .before .before))) _ (c .next-step .ensures),
     )
 
 same-length : tie.Need-same-length Inv-loop μ-loop

@@ -10,11 +10,20 @@ use Rattle.cutting.proofs.first_step.Tie as tie
 well-formed-requires : tie.Need-well-formed-requires
 well-formed-requires c κs = search needs
 
+dead-state-requires : tie.Need-dead-state-requires
+dead-state-requires c κs = well-walkable _ _ _ (sym (c .before .well-formed .ensures) ∙ c .if1 .taken)
+
 next-step-requires : tie.Need-next-step-requires
-next-step-requires c κs = well-walkable _ _ _ (sym (c .before .well-formed .ensures) ∙ c .if1 .taken)
+next-step-requires c κs =
+    record {
+      walkable = well-walkable _ _ _ (sym (c .before .before .well-formed .ensures) ∙ c .before .if1 .taken);
+      found = c .dead-state .ensures;
+    }
 
 returns : tie.Need-returns
-returns c = c .next-step .ensures ∙ first-goes _ _ _ _ _ _ (sym (c .before .before .well-formed .ensures) ∙ c .before .if1 .taken)
+returns c =
+    let formed = sym (c .before .before .before .well-formed .ensures) ∙ c .before .before .if1 .taken in
+    c .next-step .ensures ∙ first-goes _ _ _ _ _ _ formed _ (c .before .dead-state .ensures)
 
 halt-requires : tie.Need-halt-requires
 halt-requires c κs = search needs
@@ -24,4 +33,11 @@ returns-2 c = c .halt .ensures ∙ first-refused _ _ _ _ _ _ (sym (c .before .be
 
 pub first-step-spec : {M : Type 1} → statement M
 first-step-spec =
-    tie.close (tie.spec well-formed-requires next-step-requires returns halt-requires returns-2)
+    tie.close
+    (tie.spec
+    well-formed-requires
+    dead-state-requires
+    next-step-requires
+    returns
+    halt-requires
+    returns-2)

@@ -15,7 +15,7 @@ halt-requires c κs = search needs
 returns : tie.Need-returns
 returns c =
     let a = c .before .before .before .before .before .args in
-    c .halt .ensures ∙ step-over _ _ (a .at) (a .k) (a .room) (c .before .if1 .taken)
+    c .halt .ensures ∙ step-over _ _ (a .place) (a .k) (a .room) (c .before .if1 .taken)
 
 next-word-requires : tie.Need-next-word-requires
 next-word-requires c κs = search needs
@@ -29,13 +29,14 @@ halt-requires-2 c κs = search needs
 returns-2 : tie.Need-returns-2
 returns-2 c =
     let found = ap next (sym (c .before .before .before .len .given .1)) ∙ c .before .before .before .before .before .next-word .ensures in
-    c .halt2 .ensures ∙ step-full _ _ _ _ _ (c .before .before .before .before .before .before .if1 .left) _ _ found (c .before .if2 .taken)
+    let a = c .before .before .before .before .before .before .before .before .before .before .args in
+    c .halt2 .ensures ∙ step-full _ _ (a .place) _ _ (c .before .before .before .before .before .before .if1 .left) _ _ found (c .before .if2 .taken)
 
-add-t18 : tie.Need-add-t18
-add-t18 c =
+add-t20 : tie.Need-add-t20
+add-t20 c =
     let found = ap next (sym (c .before .before .len .given .1)) ∙ c .before .before .before .before .next-word .ensures in
     let a = c .before .before .before .before .before .before .before .before .before .args in
-    omega (arith, found-fits (a .count) (a .labels .now) (a .targets .now) (a .text .now) (a .at) _ _ found)
+    omega (arith, found-fits (a .count) (a .labels .now) (a .targets .now) (a .text .now) (a .place .at) _ _ found)
 
 enum-told : tie.Need-enum-told
 enum-told c = search needs
@@ -46,12 +47,14 @@ halt-requires-3 c κs = search needs
 returns-3 : tie.Need-returns-3
 returns-3 c =
     let found = ap next (sym (c .before .before .len .given .1)) ∙ c .before .before .before .before .next-word .ensures in
-    step-goes _ _ _ _ _ (c .before .before .before .before .before .if1 .left) _ _ found (c .if2 .left)
+    let a = c .before .before .before .before .before .before .before .before .before .args in
+    step-goes _ _ (a .place) _ _ (c .before .before .before .before .before .if1 .left) _ _ found (c .if2 .left)
 
 returns-4 : tie.Need-returns-4
 returns-4 c =
     let found = ap next (sym (c .before .enum-told .given .1)) ∙ c .before .before .before .next-word .ensures in
-    c .halt3 .ensures ∙ step-stuck _ _ _ _ _ (c .before .before .before .before .if1 .left) found
+    let a = c .before .before .before .before .before .before .before .before .args in
+    c .halt3 .ensures ∙ step-stuck _ _ (a .place) _ _ (c .before .before .before .before .if1 .left) found
 
 pub next-step-spec : {M : Type 1} → statement M
 next-step-spec =
@@ -63,7 +66,7 @@ next-step-spec =
     enum-known-len
     halt-requires-2
     returns-2
-    add-t18
+    add-t20
     enum-told
     halt-requires-3
     returns-3

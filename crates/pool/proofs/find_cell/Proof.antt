@@ -1,28 +1,42 @@
--- `pool::find_cell` meets its contract. The loop's invariant: no cell that was passed holds the node.
--- The measure is what is left of the cells below top. Assumes nothing.
-use Prim.Native.Nat.{ℕ, _≤_, _<_, _-_}
+-- `pool::find_cell` meets its contract: along the chain, no cell that was passed holds the node.
+-- The measure is the number that leads to the next cell, since links lead down. Assumes nothing.
 use native.Mathlib.Omega.{arith}
-use mathlib.Core.Path.{_≡_, sym, _∙_}
-use borrow.Author.Count.{below-more}
-use borrow.Author.Needs.{needs}
-use lib.ListN.{getD}
+use mathlib.Core.Path.{sym, _∙_}
 use Rattle.meaning.specs.Tests.{clash}
-use Rattle.term.specs.Cells.{nodeOf}
 use Rattle.pool.specs.NodeLaws.{node-same, node-self}
+use Rattle.pool.specs.IndexLaws.{hash-small, Chain, chain-first, chain-next, chain-falls, chain-inside, chain-found, chain-end}
+use borrow.Author.Needs.{needs}
 use Rattle.pool.proofs.find_cell.Statement.{statement}
 use Rattle.pool.proofs.find_cell.Tie as tie
 
 abbrev Inv-loop : tie.InvT-loop
-Inv-loop cells top node k₀ k = (k ≤ top) × ((j : ℕ) → j < k → nodeOf (getD cells j 0) ≡ node → ⊥)
+Inv-loop index cells top node next₀ next = Chain cells top node next
 
 abbrev μ-loop : tie.MeasureT-loop
-μ-loop cells top node k₀ k = top - k
+μ-loop index cells top node next₀ next = next
+
+hash-of-requires : tie.Need-hash-of-requires Inv-loop μ-loop
+hash-of-requires c κs = search needs
+
+mul-next : tie.Need-mul-next Inv-loop μ-loop
+mul-next c = omega (arith, hash-small (c .before .before .before .args .node), c .hash-of .ensures)
+
+shared-slice-read-next : tie.Need-shared-slice-read-next Inv-loop μ-loop
+shared-slice-read-next c =
+    let s = c .before .before .before .before in
+    omega (arith, hash-small (s .args .node), c .before .hash-of .ensures, s .pre .0 .long)
 
 loop-holds : tie.Need-loop-holds Inv-loop μ-loop
-loop-holds c = (omega arith, λ j h e. omega arith)
+loop-holds c =
+    let s = c .before .before .before .before in
+    rw (c .before .hash-of .ensures) (chain-first (s .args .index .now) (s .args .cells .now) (s .args .top) (s .args .node) (s .pre .0))
+
+sub-at : tie.Need-sub-at Inv-loop μ-loop
+sub-at c = search needs
 
 node-at-requires : tie.Need-node-at-requires Inv-loop μ-loop
-node-at-requires c κs = search needs
+node-at-requires c κs =
+    omega (arith, chain-inside (c .before .loop .inv), c .before .before .before .before .before .before .pre .1 .0)
 
 same-node-requires : tie.Need-same-node-requires Inv-loop μ-loop
 same-node-requires c κs = search needs
@@ -30,30 +44,36 @@ same-node-requires c κs = search needs
 returns : tie.Need-returns Inv-loop μ-loop
 returns c =
     let e = c .before .before .node-at .ensures in
-    let i = c .before .before .before .before .loop .inv in
-    record {
-      within = omega (arith, i .0);
-      there = λ h. sym e ∙ node-same _ _ (sym (c .before .same-node .ensures) ∙ c .if1 .taken);
-      before = i .1;
-    }
+    chain-found (c .before .before .before .before .loop .inv) (c .before .before .before .loop-test .taken)
+    (sym e ∙ node-same _ _ (sym (c .before .same-node .ensures) ∙ c .if1 .taken))
 
-add-k : tie.Need-add-k Inv-loop μ-loop
-add-k c = search needs
+add-next : tie.Need-add-next Inv-loop μ-loop
+add-next c = search needs
+
+mul-next-2 : tie.Need-mul-next-2 Inv-loop μ-loop
+mul-next-2 c = search needs
+
+shared-slice-read-next-2 : tie.Need-shared-slice-read-next-2 Inv-loop μ-loop
+shared-slice-read-next-2 c =
+    let s = c .before .before .before .before .before .before .before .before .before .before in
+    omega (arith, chain-inside (c .before .before .before .before .before .loop .inv), s .pre .0 .long, s .pre .0 .few)
 
 loop-less : tie.Need-loop-less Inv-loop μ-loop
-loop-less c = search needs
+loop-less c =
+    let s = c .before .before .before .before .before .before .before .before .before .before in
+    chain-falls (s .args .index .now) (s .args .cells .now) (s .args .top) (s .args .node) (s .pre .0)
+    (c .before .before .before .before .before .loop .inv) (c .before .before .before .before .loop-test .taken)
 
 loop-again : tie.Need-loop-again Inv-loop μ-loop
 loop-again c =
-    let e = c .before .before .node-at .ensures in (
-      omega arith,
-      below-more _ _ (c .before .before .before .before .loop .inv .1) (λ z. clash (c .before .same-node .ensures ∙ node-self _ _ (e ∙ z)) (c .if1 .left)),
-    )
+    let s = c .before .before .before .before .before .before .before .before .before .before in
+    let e = c .before .before .before .node-at .ensures in
+    chain-next (s .args .index .now) (s .args .cells .now) (s .args .top) (s .args .node) (s .pre .0)
+    (c .before .before .before .before .before .loop .inv) (c .before .before .before .before .loop-test .taken)
+    (λ z. clash (c .before .before .same-node .ensures ∙ node-self _ _ (e ∙ z)) (c .before .if1 .left))
 
 returns-2 : tie.Need-returns-2 Inv-loop μ-loop
-returns-2 c =
-    let i = c .before .loop .inv in
-    record { within = i .0; there = λ h. absurd (omega arith); before = i .1 }
+returns-2 c = chain-end (c .before .loop .inv) (omega arith)
 
 pub find-cell-spec : {M : Type 1} → statement M
 find-cell-spec =
@@ -61,11 +81,17 @@ find-cell-spec =
     (tie.spec
     Inv-loop
     μ-loop
+    hash-of-requires
+    mul-next
+    shared-slice-read-next
     loop-holds
+    sub-at
     node-at-requires
     same-node-requires
     returns
-    add-k
+    add-next
+    mul-next-2
+    shared-slice-read-next-2
     loop-less
     loop-again
     returns-2)

@@ -12,8 +12,8 @@ slice-aggregate-copy-out c = search needs
 
 copy-out-requires : tie.Need-copy-out-requires
 copy-out-requires c κs =
-    let p = c .before .before .before .pre in
-    (p .1 .0, (sound-none _ (omega arith), omega (arith, p .1 .1 .0)))
+    let p = c .before .before .before .before .pre in
+    (p .1 .0, (sound-none _ (omega arith), omega (arith, p .1 .1)))
 
 slice-aggregate-put-copy : tie.Need-slice-aggregate-put-copy
 slice-aggregate-put-copy c = search needs
@@ -23,16 +23,17 @@ sub-put-copy c = search needs
 
 put-copy-requires : tie.Need-put-copy-requires
 put-copy-requires c κs =
-    let s = c .before .before .before .before .before .before .before in
-    let p = s .pre in
-    let a = copied-asks (s .args .cells .now) (s .args .top) (c .before .before .before .copy-out .ensures) (p .1 .1 .0) (p .1 .1 .1) in
-    (a .0, (p .0, a .1))
+    let s = c .before .before .before .before .before .before .before .before .before in
+    copied-asks (s .args .index .now) (s .args .cells .now) (s .args .top) (c .before .before .before .before .copy-out .ensures) (s .pre .1 .1) (s .pre .0)
 
 same-length : tie.Need-same-length
 same-length c = search needs
 
+same-length-2 : tie.Need-same-length-2
+same-length-2 c = search needs
+
 returns : tie.Need-returns
-returns c = put-copied (c .before .before .before .before .before .before .copy-out .ensures) (c .before .before .put-copy .ensures)
+returns c = put-copied (c .before .before .before .before .before .before .before .before .before .copy-out .ensures) (c .before .before .before .before .put-copy .ensures)
 
 pub put-term-spec : {M : Type 1} → statement M
 put-term-spec =
@@ -44,4 +45,5 @@ put-term-spec =
     sub-put-copy
     put-copy-requires
     same-length
+    same-length-2
     returns)

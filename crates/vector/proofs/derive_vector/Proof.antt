@@ -4,7 +4,7 @@ use Prim.Native.Nat.{_-_}
 use native.Mathlib.Omega.{arith}
 use mathlib.Core.Path.{_≡_, refl}
 use borrow.Author.Needs.{needs}
-use lib.ListN.{length-replicate, getD-replicate, replicate}
+use lib.ListN.{length, length-replicate, getD-replicate, replicate}
 use Rattle.number.specs.Limits.{rules}
 use Rattle.meaning.specs.Tests.{clash}
 use Rattle.normal.specs.AnswerLaws.{got}
@@ -14,15 +14,19 @@ use Rattle.vector.proofs.derive_vector.Statement.{statement}
 use Rattle.vector.proofs.derive_vector.Tie as tie
 
 abbrev Inv-loop : tie.InvT-loop
-Inv-loop cells₀ top v n byte from to₀ next₀ i₀ cells to next i = Going cells₀ top n from byte cells next to i
+Inv-loop index₀ cells₀ top v n byte from to₀ next₀ i₀ index cells to next i =
+    (length index ≡ length index₀) × Going cells₀ top n from byte index cells next to i
 
 abbrev μ-loop : tie.MeasureT-loop
-μ-loop cells₀ top v n byte from to₀ next₀ i₀ cells to next i = n - i
+μ-loop index₀ cells₀ top v n byte from to₀ next₀ i₀ index cells to next i = n - i
 
 loop-holds : tie.Need-loop-holds Inv-loop μ-loop
 loop-holds c =
-    let o = c .before .before in
-    going-first (o .args .byte) (replicate rules nothingCell) (o .pre) (length-replicate rules nothingCell) (λ i h. getD-replicate rules i nothingCell 0 h)
+    let o = c .before .before .before in (
+      refl,
+      going-first (o .args .byte) (replicate rules nothingCell) (o .pre) (length-replicate rules nothingCell)
+          (λ i h. getD-replicate rules i nothingCell 0 h),
+    )
 
 mul-derive : tie.Need-mul-derive Inv-loop μ-loop
 mul-derive c = search needs
@@ -33,8 +37,8 @@ array-read-derive c = search needs
 derive-requires : tie.Need-derive-requires Inv-loop μ-loop
 derive-requires c κs =
     let l = c .before .before .loop in
-    let o = c .before .before .before .before .before in
-    place-derives (o .pre) (l .inv) (omega arith)
+    let o = c .before .before .before .before .before .before in
+    place-derives (o .pre) (l .inv .1) (omega arith)
 
 enum-known-root : tie.Need-enum-known-root Inv-loop μ-loop
 enum-known-root c = search needs
@@ -45,23 +49,27 @@ enum-told c = search needs
 same-length : tie.Need-same-length Inv-loop μ-loop
 same-length c = search needs
 
+same-length-2 : tie.Need-same-length-2 Inv-loop μ-loop
+same-length-2 c = search needs
+
 returns : tie.Need-returns Inv-loop μ-loop
 returns c =
     let l = c .before .before .before .before .before .before .before .loop in
-    let o = c .before .before .before .before .before .before .before .before .before .before in
+    let o = c .before .before .before .before .before .before .before .before .before .before .before in
     record {
-      spared = place-spared (o .pre) (l .inv) (omega arith) (c .before .before .before .before .derive .ensures) (c .enum-told .given .1);
-      too-long = λ _. place-long (o .pre) (l .inv) (omega arith) (c .before .before .before .before .derive .ensures) (c .enum-told .given .1);
+      spared = place-spared (o .pre) (l .inv .1) (omega arith) (c .before .before .before .before .derive .ensures) (c .enum-told .given .1);
+      too-long = λ _. place-long (o .pre) (l .inv .1) (omega arith) (c .before .before .before .before .derive .ensures) (c .enum-told .given .1);
       done = λ e. absurd (clash refl e);
+      indexed = λ e. absurd (clash refl e);
     }
 
 put-term-requires : tie.Need-put-term-requires Inv-loop μ-loop
 put-term-requires c κs =
-    let l = c .before .before .before .before .before .before .before .before .before .loop in
-    let o = c .before .before .before .before .before .before .before .before .before .before .before .before in
-    let d = c .before .before .before .before .before .before .derive in
-    let p = place-puts (o .pre) (l .inv) (omega arith) (got (d .ensures) (c .before .before .root .given .1)) in
-    (p .pooled, (p .sound, (p .small, p .room)))
+    let l = c .before .before .before .before .before .before .before .before .before .before .loop in
+    let o = c .before .before .before .before .before .before .before .before .before .before .before .before .before .before in
+    let d = c .before .before .before .before .before .before .before .derive in
+    let p = place-puts (o .pre) (l .inv .1) (omega arith) (got (d .ensures) (c .before .before .before .root .given .1)) in
+    (p .ready, (p .sound, p .small))
 
 mul-to : tie.Need-mul-to Inv-loop μ-loop
 mul-to c = search needs
@@ -77,24 +85,30 @@ loop-less c = search needs
 
 loop-again : tie.Need-loop-again Inv-loop μ-loop
 loop-again c =
-    let l = c .before .before .before .before .before .before .before .before .before .before .before .before .loop in
-    let o = c .before .before .before .before .before .before .before .before .before .before .before .before .before .before .before in
-    let d = c .before .before .before .before .before .before .before .before .before .derive in
-    place-more (o .pre) (l .inv) (omega arith) (got (d .ensures) (c .before .before .before .before .before .root .given .1))
-    (c .before .before .put-term .ensures)
+    let l = c .before .before .before .before .before .before .before .before .before .before .before .before .before .before .before .loop in
+    let o = c .before .before .before .before .before .before .before .before .before .before .before .before .before .before .before .before .before .before .before in
+    let d = c .before .before .before .before .before .before .before .before .before .before .before .before .derive in (
+      search needs,
+      place-more (o .pre) (l .inv .1) (omega arith) (got (d .ensures) (c .before .before .before .before .before .before .before .before .root .given .1))
+          (c .before .before .before .before .put-term .ensures),
+    )
 
-same-length-2 : tie.Need-same-length-2 Inv-loop μ-loop
-same-length-2 c = search needs
+same-length-3 : tie.Need-same-length-3 Inv-loop μ-loop
+same-length-3 c = search needs
+
+same-length-4 : tie.Need-same-length-4 Inv-loop μ-loop
+same-length-4 c = search needs
 
 returns-2 : tie.Need-returns-2 Inv-loop μ-loop
 returns-2 c =
     let l = c .before .loop in
-    let o = c .before .before .before .before in
-    let e : l .i ≡ o .args .n = omega (arith, l .inv .within) in
+    let o = c .before .before .before .before .before in
+    let e : l .i ≡ o .args .n = omega (arith, l .inv .1 .within) in
     record {
-      spared = l .inv .spared;
+      spared = l .inv .1 .spared;
       too-long = λ e. absurd (clash e refl);
-      done = λ _. rw e at (l .inv .done);
+      done = λ _. rw e at (l .inv .1 .done);
+      indexed = λ _. l .inv .1 .indexed;
     }
 
 pub derive-vector-spec : {M : Type 1} → statement M
@@ -110,6 +124,7 @@ derive-vector-spec =
     enum-known-root
     enum-told
     same-length
+    same-length-2
     returns
     put-term-requires
     mul-to
@@ -117,5 +132,6 @@ derive-vector-spec =
     add-i
     loop-less
     loop-again
-    same-length-2
+    same-length-3
+    same-length-4
     returns-2)
