@@ -23,7 +23,7 @@ use Rattle.building.specs.Build.{alone, tableOf, buildRules}
 use Rattle.building.specs.BuildLaws.{Built, built, label-item}
 
 -- a label is at most the number of rules
-label-most : (i : ℕ) (rs : List Re) → labelFrom i rs ≤ i + length rs
+pub label-most : (i : ℕ) (rs : List Re) → labelFrom i rs ≤ i + length rs
 unfolding labelFrom
 label-most i [] = omega arith
 label-most i (r ∷ rs) = go (nullable r) (label-most (suc i) rs)

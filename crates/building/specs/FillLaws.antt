@@ -1,19 +1,16 @@
 -- Laws for the loops that fill a table area: a row run by run, all rows, and the labels of all items.
 -- What was reached so far stands in the targets, and in front of what remains it is the whole walk.
-use Prim.Native.Nat.{ℕ, suc, _+_, _*_, _-_, _<_, _≤_}
+use Prim.Native.Nat.{ℕ, _+_, _*_, _-_, _<_, _≤_}
 use native.Mathlib.Nat.{add-zero}
 use native.Mathlib.Omega.{arith}
 use mathlib.Core.Path.{_≡_, refl, sym, ap, subst, _∙_}
-use mathlib.Core.Bool.{Bool, true, false, cond}
 use mathlib.Core.List.{List, [], _∷_, _++_, append-nil, map-append}
 use lib.ListN.{length, take, set, replicate, length-append, length-map, take-append-drop}
 use Rattle.number.specs.declared.Refusal.{Refusal}
 use Rattle.number.specs.declared.Refusal.the-variants.{States}
 use Rattle.number.specs.Limits.{rules, bytes, states, tableCells, pool}
 use Rattle.number.specs.Lists.{written, written-more, take-written, stored-one}
-use Rattle.meaning.specs.Re.{Re}
-use Rattle.meaning.specs.Derive.{nullable}
-use Rattle.meaning.specs.Rules.{label, labelFrom}
+use Rattle.meaning.specs.Rules.{label}
 use Rattle.meaning.specs.Edges.{nextEdgeAll}
 use Rattle.meaning.specs.EdgeLaws.{edge-all-after, edge-all-within}
 use Rattle.walk.specs.Walk.{Item, step, Walked, row, rows}
@@ -29,6 +26,7 @@ use Rattle.steps.specs.declared.Stepped.the-variants.{Reached, Stopped}
 use Rattle.steps.specs.Step.{wayOf, Ready, Steps}
 use Rattle.steps.specs.RowLaws.{Along, along-first, along-end, along-stop, along-run, Rowed, rowed-first, rowed-end, rowed-stop, rowed-next}
 use Rattle.steps.specs.CallLaws.{went, halts, steps-way, kept-reads}
+use Rattle.building.specs.BuiltFormed.{label-most}
 use Rattle.building.specs.Build.{alone}
 use Rattle.building.specs.Fill.{Fillable, Laid, RowComes, RowFilled, RowsComes, Labelled, labelsOf}
 
@@ -223,15 +221,6 @@ module _ {before : ℕ} {w : Walked} {t₀ s : List ℕ} {n top count i : ℕ} {
 
 -- ---- the labels
 
-label-few : (i : ℕ) (rs : List Re) → labelFrom i rs ≤ i + length rs
-unfolding labelFrom
-label-few i [] = omega arith
-label-few i (r ∷ rs) = go (nullable r) (label-few (suc i) rs)
-  where
-    go : (b : Bool) → labelFrom (suc i) rs ≤ suc i + length rs → cond b (suc i) (labelFrom (suc i) rs) ≤ i + suc (length rs)
-    go true h = omega arith
-    go false h = omega arith
-
 module _ {s : List ℕ} {n count : ℕ} {l₀ : List ℕ} (o : Labelled s n count l₀) where
   pub labelled-first : l₀ ≡ written l₀ 0 (labelsOf (itemsOf s n 0))
   unfolding itemsOf
@@ -248,7 +237,7 @@ module _ {s : List ℕ} {n count : ℕ} {l₀ : List ℕ} (o : Labelled s n coun
       pub labelled-small : a ≤ rules
       labelled-small =
           let r = labelled-reads in
-          omega (arith, label-few 0 (vectorOf s n v), vector-length s n v (omega (arith, r .whole, r .few-rules)), r .few-rules)
+          omega (arith, label-most 0 (vectorOf s n v), vector-length s n v (omega (arith, r .whole, r .few-rules)), r .few-rules)
 
       pub labelled-more : {l : List ℕ} → length l ≡ length l₀ → l ≡ written l₀ 0 (labelsOf (itemsOf s n i))
           → set l i a ≡ written l₀ 0 (labelsOf (itemsOf s n (i + 1)))

@@ -23,6 +23,7 @@ use Rattle.vector.specs.Layout.{sheetsAt, parentsAt, bytesAt}
 use Rattle.vector.specs.Vectors.{vectorOf}
 use Rattle.vector.specs.Memory.{numbersAt, textBy, textOf, itemsOf}
 use Rattle.vector.specs.MemoryLaws.{items-length, items-at}
+use Rattle.vector.specs.MemoryLaws.{first-text}
 use Rattle.comparing.specs.declared.Compared.the-variants.{Same, Differs}
 use Rattle.comparing.specs.declared.Seen.{Seen}
 use Rattle.comparing.specs.declared.Seen.the-variants.{Alike, Differ}
@@ -78,11 +79,6 @@ text-short (suc f) s k = go (eqb k 0) (text-short f s (getD s (parentsAt + k) 0)
     go false h = omega (arith, length-snoc (textBy f s (getD s (parentsAt + k) 0)) (getD s (bytesAt + k) 0))
 
 -- the first item has the empty text, any other that of its parent and its byte
-first-text : (f : ℕ) (s : List ℕ) → textBy f s 0 ≡ []
-unfolding textBy
-first-text zero s = refl
-first-text (suc f) s = refl
-
 text-step : (f : ℕ) (s : List ℕ) (k : ℕ) → (k ≡ 0 → ⊥) → textBy (suc f) s k ≡ textBy f s (getD s (parentsAt + k) 0) ++ (getD s (bytesAt + k) 0 ∷ [])
 unfolding textBy
 text-step f s k d = rw (ne-eqb k 0 d)

@@ -100,7 +100,7 @@ pub record Unmoved (s s′ : List ℕ) (count : ℕ) : Type 0 where
 abbrev pub Parents : List ℕ → ℕ → Type 0
 Parents s count = (k : ℕ) → 0 < k → k < count → getD s (parentsAt + k) 0 < k
 
-first-text : (f : ℕ) (s : List ℕ) → textBy f s 0 ≡ []
+pub first-text : (f : ℕ) (s : List ℕ) → textBy f s 0 ≡ []
 unfolding textBy
 first-text zero s = refl
 first-text (suc f) s = refl
