@@ -46,18 +46,8 @@ fn fill_row(
     let mut byte: usize = 0;
     while byte < BYTES {
         let edge = vector::edge_of(cells, vector::load(cells, i), n, byte);
-        let made = steps::step(
-            index,
-            cells,
-            next,
-            held,
-            n,
-            i,
-            byte,
-            0,
-            STATES,
-            Refusal::States(i),
-        );
+        let full = Refusal::States(i);
+        let made = steps::step(index, cells, next, held, n, i, byte, 0, STATES, full);
         let Stepped::Reached(above, more, number) = made else {
             return made;
         };

@@ -79,18 +79,8 @@ fn walk_row(
     while c < BYTES {
         let at = base + c;
         let to = targets[at] as usize;
-        let went = steps::step(
-            index,
-            cells,
-            next,
-            held,
-            n,
-            i,
-            c,
-            to,
-            PAIRS,
-            Refusal::Pairs(i),
-        );
+        let full = Refusal::Pairs(i);
+        let went = steps::step(index, cells, next, held, n, i, c, to, PAIRS, full);
         let Stepped::Reached(above, more, _) = went else {
             return went;
         };

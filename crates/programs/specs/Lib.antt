@@ -1,5 +1,9 @@
--- What the program cut prints, for every book's kinds and every table: Output has the definitions, OutputLaws the laws that the code goes by.
--- Turns says that a text that is cut in turns prints what it would print in one.
+-- What the programs print, for every input. Definitions, in reading order: Output, the lines of a cut, and Print, all that each program puts out.
+-- Turns says that a text that is cut in turns prints what it would print in one; Main has the theorems that are bought; the laws are the code's.
 pub mod Output
-pub mod OutputLaws
+pub mod Print
 pub mod Turns
+pub mod OutputLaws
+pub mod PrintLaws
+pub mod Sample
+pub mod Main

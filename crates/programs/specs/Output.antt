@@ -1,6 +1,6 @@
--- What the program cut prints: a line for each word, with the kind of its rule, and a last line; or a refusal, alone.
--- A long text is cut in turns, each into the same records: a turn prints its words, and the text goes on from where the records were full.
-use Prim.Native.Nat.{ℕ, zero, suc, _+_, _<_, _≤_}
+-- The lines of a cut: a line for each word, with the kind of its rule, and a last line; or a refusal, alone.
+-- A long text is cut in turns, each into the same records: a turn puts its words, and the text goes on from where the records were full.
+use Prim.Native.Nat.{ℕ, zero, suc, _+_, _*_, _<_, _≤_}
 use mathlib.Core.Path.{_≡_}
 use mathlib.Core.Bool.{cond}
 use mathlib.Core.List.{List, [], _∷_, _++_}
@@ -18,7 +18,7 @@ use Rattle.cutting.specs.Calls.{cutOf}
 use Rattle.cutting.specs.Cut.{Ending, Cut}
 use Rattle.cutting.specs.Cut.Ending.{Done, StuckAt, FullAt}
 use Rattle.cutting.specs.Flat.{recordCells}
-use Rattle.lines.specs.Lines.{wordLine, doneLine, stuckLine, refusedLine}
+use Rattle.lines.specs.Lines.{wordLine, doneLine, stuckLine, refusedLine, lineRoom}
 use Rattle.programs.specs.declared.words.Turn.{Turn}
 use Rattle.programs.specs.declared.words.Turn.the-variants.{Onward, Last}
 
@@ -33,22 +33,25 @@ kindNumber (refuses r) = 0
 abbrev pub kindIn : List ℕ → ℕ → ℕ
 kindIn book rule = kindNumber (kindOf book rule)
 
--- a list of kinds, one a rule
+-- a list of kinds, one a rule; past its end there is 0
 abbrev pub Kinds : List ℕ → List ℕ → Type 0
 Kinds book kinds = (i : ℕ) → i < length kinds → getD kinds i 0 ≡ kindIn book i
+
+abbrev pub kindBy : List ℕ → ℕ → ℕ
+kindBy kinds rule = getD kinds rule 0
 
 -- ---- lines
 
 -- words, each with the kind of its rule
-unfoldable pub wordLines : List ℕ → List Word → List ℕ
+unfoldable pub wordLines : (ℕ → ℕ) → List Word → List ℕ
 wordLines kinds [] = []
-wordLines kinds (w ∷ ws) = wordLine (w .start) (w .len) (w .rule) (getD kinds (w .rule) 0) ++ wordLines kinds ws
+wordLines kinds (w ∷ ws) = wordLine (w .start) (w .len) (w .rule) (kinds (w .rule)) ++ wordLines kinds ws
 
 -- the same of so many records, as they lie in cells
-unfoldable pub cellLines : List ℕ → List ℕ → ℕ → List ℕ
+unfoldable pub cellLines : (ℕ → ℕ) → List ℕ → ℕ → List ℕ
 cellLines kinds cells zero = []
 cellLines kinds cells (suc n) =
-    wordLine (getD cells 0 0) (getD cells 1 0) (getD cells 2 0) (getD kinds (getD cells 2 0) 0) ++ cellLines kinds (drop recordCells cells) n
+    wordLine (getD cells 0 0) (getD cells 1 0) (getD cells 2 0) (kinds (getD cells 2 0)) ++ cellLines kinds (drop recordCells cells) n
 
 -- the last line; a cut that goes on has none yet
 abbrev pub lastLine : ℕ → Ending → List ℕ
@@ -56,8 +59,8 @@ lastLine total Done = doneLine total
 lastLine total (StuckAt at) = stuckLine at
 lastLine total (FullAt at) = []
 
--- what a cut prints, where so many words went before
-abbrev pub cutLines : List ℕ → ℕ → Cut → List ℕ
+-- the lines of a cut, where so many words went before
+abbrev pub cutLines : (ℕ → ℕ) → ℕ → Cut → List ℕ
 cutLines kinds before c = wordLines kinds (c .words) ++ lastLine (before + length (c .words)) (c .ending)
 
 -- ---- turns
@@ -67,7 +70,7 @@ abbrev pub turnOf : ℕ → List ℕ → List ℕ → Text → ℕ → ℕ → O
 turnOf s labels targets text at room =
     cond (wellFormed s labels targets) (gives (cutOf (lent s labels targets) text at room)) (refuses Loaded)
 
-abbrev pub turnLines : List ℕ → ℕ → Outcome Cut → List ℕ
+abbrev pub turnLines : (ℕ → ℕ) → ℕ → Outcome Cut → List ℕ
 turnLines kinds before (gives c) = cutLines kinds before c
 turnLines kinds before (refuses r) = refusedLine r
 
@@ -94,14 +97,14 @@ abbrev pub endOf : Turn → ℕ
 endOf (Onward at total end) = end
 endOf (Last end) = end
 
--- a turn adds no more words than there are records
-abbrev pub Few : ℕ → Turn → Type 0
-Few most (Onward at total end) = total ≤ most
-Few most (Last end) = Unit {0}
+-- a turn that goes on has no more lines than words
+abbrev pub Few : ℕ → ℕ → Turn → Type 0
+Few at before (Onward place total end) = end + lineRoom * before ≤ at + lineRoom * total
+Few at before (Last end) = Unit {0}
 
--- what a turn does: its lines stand at the front of the buffer, o before and o′ now, and the answer says how it goes on
-pub record Turned (kinds : List ℕ) (before room : ℕ) (x : Outcome Cut) (o o′ : List ℕ) (r : Turn) : Type 0 where
-  pub lines : Writes (turnLines kinds before x) o o′ 0 (endOf r)
+-- what a turn does: its lines stand in the buffer from `at` on, o before and o′ now, and the answer says how it goes on
+pub record Turned (kinds : ℕ → ℕ) (before : ℕ) (x : Outcome Cut) (o o′ : List ℕ) (at : ℕ) (r : Turn) : Type 0 where
+  pub lines : Writes (turnLines kinds before x) o o′ at (endOf r)
   pub goes : next r ≡ nextAfter before x
   pub fits : endOf r ≤ length o′
-  pub few : Few (before + room) r
+  pub few : Few at before r

@@ -1,12 +1,14 @@
-// Program compare: reads words.book and words.sheet, and prints whether book and sheet are the same, or a text on which they differ.
+// What program compare prints: whether book and sheet are the same, or a text on which they differ, or a refusal.
 // Files that are missing or too long are told first, then the book's faults, then the sheet's, then the walk's.
 ghost use Prim.Native.Nat.{_≤_};
+ghost use mathlib.Core.Path.{_≡_};
 ghost use lib.ListN.{length};
-ghost use Rattle.number.specs.Limits.{shownText};
-use crate::files;
+ghost use Rattle.number.specs.Limits.{states, tableCells, shownText};
+ghost use Rattle.table.specs.Promises.{Writes};
+ghost use Rattle.vector.specs.Layout.{workLength};
+ghost use Rattle.programs.specs.Print.{compareFiles, verdictLines, comparePrint, compareRoom, toldLines, Inside};
 use book::Checked;
 use comparing::Compared;
-use libc::STDOUT_FILENO;
 use lines::LINE_ROOM;
 use number::Refusal;
 use number::limits::BOOK_FILE;
@@ -18,66 +20,79 @@ use table::Counted;
 use vector::layout::WORK_LENGTH;
 
 // A line, and the shown text in two digits a byte with the line's end.
-const OUT: usize = LINE_ROOM + 2 * SHOWN_TEXT + 1;
+pub const COMPARE_ROOM: usize = LINE_ROOM + (2 * SHOWN_TEXT + 1);
 
-fn print_same() {
-    let mut out = [0u8; LINE_ROOM];
-    let end = lines::put_same(&mut out, 0);
-    io::write_all(STDOUT_FILENO, &out[0..end]);
-}
-
-// A shown text lies within its area.
-fn print_difference(area: &[u8], len: usize, book: usize, sheet: usize)
-    requires { ⌜ length (now area) ≤ shownText ⌝ }
+// The lines of an answer, whose text stands in its area.
+fn put_answer(answer: Compared, area: &[u8], out: &mut [u8]) -> usize
+    requires { ⌜ Inside (now area) answer ⌝ }
+    requires { ⌜ length (now area) ≡ shownText ⌝ }
+    requires { ⌜ compareRoom ≤ length (now out) ⌝ }
+    ensures { λ end. ⌜ Writes (toldLines (now (area .entry)) answer) (now (out .entry)) (now (out .exit)) 0 end ⌝ }
+    ensures { λ end. ⌜ end ≤ length (now (out .exit)) ⌝ }
 {
-    if area.len() < len {
-        return;
-    }
-    let mut out = [0u8; OUT];
-    let at = lines::put_differs(len, book, sheet, &mut out, 0);
-    let end = lines::put_hex_line(&area[0..len], 0, &mut out, at);
-    io::write_all(STDOUT_FILENO, &out[0..end]);
-}
-
-// The walk, once both files have been read without fault.
-fn print_compared<'a>(book: &'a [u8], count: usize, labels: &'a [u8], targets: &'a [u8]) {
-    let mut area = [0u8; SHOWN_TEXT];
-    let mut work = [0u64; WORK_LENGTH];
-    match comparing::compare_book(book, count, labels, targets, &mut area, &mut work) {
-        Compared::Same => print_same(),
+    match answer {
+        Compared::Same => lines::put_same(out, 0),
         Compared::Differs(len, by_book, by_sheet) => {
-            print_difference(&area, len, by_book, by_sheet)
+            let at = lines::put_differs(len, by_book, by_sheet, out, 0);
+            lines::put_hex_line(&area[0..len], 0, out, at)
         }
-        Compared::Refused(r) => files::refuse(r),
+        Compared::Refused(r) => lines::put_refused(r, out, 0),
     }
 }
 
-fn compare_files(book: &[u8], sheet: &[u8]) {
-    let checked = book::check_book(book);
-    if let Checked::Refused(r) = checked {
-        files::refuse(r);
-        return;
+// Both files, in lent memory that is large enough.
+fn compare_in<'a>(
+    book: &'a [u8],
+    sheet: &'a [u8],
+    labels: &mut [u8],
+    targets: &mut [u8],
+    area: &mut [u8],
+    work: &mut [u64],
+    out: &mut [u8],
+) -> usize
+    requires { ⌜ states ≤ length (now labels) ⌝ }
+    requires { ⌜ tableCells ≤ length (now targets) ⌝ }
+    requires { ⌜ length (now area) ≡ shownText ⌝ }
+    requires { ⌜ workLength ≤ length (now work) ⌝ }
+    requires { ⌜ compareRoom ≤ length (now out) ⌝ }
+    ensures { λ end. ⌜ Writes (verdictLines (compareFiles (now (book .entry)) (now (sheet .entry)))) (now (out .entry)) (now (out .exit)) 0 end ⌝ }
+    ensures { λ end. ⌜ end ≤ length (now (out .exit)) ⌝ }
+{
+    match book::check_book(book) {
+        Checked::Refused(r) => lines::put_refused(r, out, 0),
+        Checked::Counts(_, _) => match table::load(sheet, labels, targets) {
+            Counted::Refused(r) => lines::put_refused(r, out, 0),
+            Counted::States(count) => {
+                let answer = comparing::compare_book(book, count, labels, targets, area, work);
+                put_answer(answer, area, out)
+            }
+        },
+    }
+}
+
+// All that program compare prints for the bytes of its two files; more bytes than a file may have stand for one that is missing or too long.
+pub fn compare_lines<'a>(book: &'a [u8], sheet: &'a [u8], out: &mut [u8]) -> usize
+    requires { ⌜ compareRoom ≤ length (now out) ⌝ }
+    ensures { λ end. ⌜ Writes (comparePrint (now (book .entry)) (now (sheet .entry))) (now (out .entry)) (now (out .exit)) 0 end ⌝ }
+    ensures { λ end. ⌜ end ≤ length (now (out .exit)) ⌝ }
+{
+    if BOOK_FILE < book.len() {
+        return lines::put_refused(Refusal::Input, out, 0);
+    }
+    if SHEET_FILE < sheet.len() {
+        return lines::put_refused(Refusal::Input, out, 0);
     }
     let mut labels = [0u8; STATES];
     let mut targets = [0u8; TABLE_CELLS];
-    match table::load(sheet, &mut labels, &mut targets) {
-        Counted::States(count) => print_compared(book, count, &labels, &targets),
-        Counted::Refused(r) => files::refuse(r),
-    }
-}
-
-pub fn run_compare() {
-    let mut book = [0u8; BOOK_FILE + 1];
-    let mut sheet = [0u8; SHEET_FILE + 1];
-    let book_end = files::read_named(b"words.book", &mut book);
-    let sheet_end = files::read_named(b"words.sheet", &mut sheet);
-    if BOOK_FILE < book_end {
-        files::refuse(Refusal::Input);
-        return;
-    }
-    if SHEET_FILE < sheet_end {
-        files::refuse(Refusal::Input);
-        return;
-    }
-    compare_files(&book[0..book_end], &sheet[0..sheet_end]);
+    let mut area = [0u8; SHOWN_TEXT];
+    let mut work = [0u64; WORK_LENGTH];
+    compare_in(
+        book,
+        sheet,
+        &mut labels,
+        &mut targets,
+        &mut area,
+        &mut work,
+        out,
+    )
 }

@@ -1,11 +1,20 @@
-// Program cut: reads words.book and standard input, builds, cuts, and prints a line for each word.
-// Both inputs are read before the book is looked at, so that a file that is missing or too long is told first.
-use crate::files;
+// What program cut prints: a line for each word of the text and a last one, or a refusal, alone.
+// Files that are missing or too long are told before the book is looked at.
+ghost use Prim.Native.Nat.{_+_, _-_, _*_, _^_, _<_, _≤_};
+ghost use lib.ListN.{length};
+ghost use Rattle.number.specs.Limits.{states, tableCells, textFile};
+ghost use Rattle.table.specs.Promises.{Writes};
+ghost use Rattle.cutting.specs.Flat.{recordCells};
+ghost use Rattle.vector.specs.Layout.{workLength};
+ghost use Rattle.lines.specs.Lines.{lineRoom};
+ghost use Rattle.building.specs.Calls.{buildBook};
+ghost use Rattle.programs.specs.Output.{kindIn, kindBy};
+ghost use Rattle.programs.specs.Turns.{restLines};
+ghost use Rattle.programs.specs.Print.{cutBuilt, cutPrint, cutRoom};
 use crate::words;
 use crate::words::RECORD_CELLS;
 use crate::words::Turn;
-use libc::STDIN_FILENO;
-use libc::STDOUT_FILENO;
+use lines::LINE_ROOM;
 use number::Refusal;
 use number::limits::BOOK_FILE;
 use number::limits::RULES;
@@ -15,76 +24,109 @@ use number::limits::TEXT_FILE;
 use table::Counted;
 use vector::layout::WORK_LENGTH;
 
-// The words of one turn, and the bytes that their lines and the last one take at most.
+// A line for each byte of a text, and a last one.
+pub const CUT_ROOM: usize = LINE_ROOM * (TEXT_FILE + 1);
+
+// The words of one turn.
 const RECORDS: usize = 640;
 
-const OUT: usize = 65536;
+// The lines of the text from a place on, turn by turn, where `sum` words went before. Every turn but the last takes a byte at least.
+fn put_turns<'a>(
+    s: usize,
+    labels: &'a [u8],
+    targets: &'a [u8],
+    text: &'a [u8],
+    from: usize,
+    sum: usize,
+    kinds: &[usize],
+    cells: &mut [usize],
+    out: &mut [u8],
+    at: usize,
+) -> usize
+    requires { ⌜ recordCells ≤ length (now cells) ⌝ }
+    requires { ⌜ at + lineRoom * (length (now text) - from + 1) ≤ length (now out) ⌝ }
+    requires { ⌜ sum + (length (now text) - from) < 2 ^ 64 ⌝ }
+    ensures { λ end. ⌜ Writes (restLines (kindBy (now (kinds .entry))) s (now (labels .entry)) (now (targets .entry)) (now (text .entry)) from sum)
+        (now (out .entry)) (now (out .exit)) at end ⌝ }
+    ensures { λ end. ⌜ end ≤ length (now (out .exit)) ⌝ }
+{
+    match words::cut_turn(s, labels, targets, text, from, sum, kinds, cells, out, at) {
+        Turn::Last(end) => end,
+        Turn::Onward(next, more, end) => {
+            put_turns(s, labels, targets, text, next, more, kinds, cells, out, end)
+        }
+    }
+}
 
-// Prints the words of the text, turn by turn. Every turn but the last takes a byte at least, so there are no more turns than a text has bytes, and one.
-fn print_words<'a>(
+// The lines of a text by the table of a book, with the kinds of the book's rules.
+fn put_cut<'a>(
+    book: &[u8],
     count: usize,
     labels: &'a [u8],
     targets: &'a [u8],
     text: &'a [u8],
-    kinds: &[usize],
-) {
+    out: &mut [u8],
+) -> usize
+    requires { ⌜ length (now text) ≤ textFile ⌝ }
+    requires { ⌜ cutRoom ≤ length (now out) ⌝ }
+    ensures { λ end. ⌜ Writes (restLines (kindIn (now (book .entry))) count (now (labels .entry)) (now (targets .entry)) (now (text .entry)) 0 0)
+        (now (out .entry)) (now (out .exit)) 0 end ⌝ }
+    ensures { λ end. ⌜ end ≤ length (now (out .exit)) ⌝ }
+{
+    let mut kinds = [0usize; RULES];
+    words::look_up(book, &mut kinds);
     let mut records = [0usize; RECORD_CELLS * RECORDS];
-    let mut out = [0u8; OUT];
-    let mut place: usize = 0;
-    let mut total: usize = 0;
-    let mut turns: usize = 0;
-    while turns <= TEXT_FILE {
-        match words::cut_turn(
-            count,
-            labels,
-            targets,
-            text,
-            place,
-            total,
-            kinds,
-            &mut records,
-            &mut out,
-        ) {
-            Turn::Last(end) => {
-                io::write_all(STDOUT_FILENO, &out[0..end]);
-                return;
-            }
-            Turn::Onward(at, so_far, end) => {
-                io::write_all(STDOUT_FILENO, &out[0..end]);
-                place = at;
-                total = so_far;
-            }
-        }
-        turns += 1;
+    put_turns(
+        count,
+        labels,
+        targets,
+        text,
+        0,
+        0,
+        &kinds,
+        &mut records,
+        out,
+        0,
+    )
+}
+
+// Both files, in lent memory that is large enough.
+fn cut_in<'a>(
+    book: &'a [u8],
+    text: &'a [u8],
+    labels: &mut [u8],
+    targets: &mut [u8],
+    work: &mut [u64],
+    out: &mut [u8],
+) -> usize
+    requires { ⌜ states ≤ length (now labels) ⌝ }
+    requires { ⌜ tableCells ≤ length (now targets) ⌝ }
+    requires { ⌜ workLength ≤ length (now work) ⌝ }
+    requires { ⌜ length (now text) ≤ textFile ⌝ }
+    requires { ⌜ cutRoom ≤ length (now out) ⌝ }
+    ensures { λ end. ⌜ Writes (cutBuilt (now (book .entry)) (now (text .entry)) (buildBook (now (book .entry)))) (now (out .entry)) (now (out .exit)) 0 end ⌝ }
+    ensures { λ end. ⌜ end ≤ length (now (out .exit)) ⌝ }
+{
+    match building::build(book, labels, targets, work) {
+        Counted::Refused(r) => lines::put_refused(r, out, 0),
+        Counted::States(count) => put_cut(book, count, labels, targets, text, out),
     }
 }
 
-fn cut_text(book: &[u8], text: &[u8]) {
+// All that program cut prints for the bytes of its book and of its text; more bytes than a file may have stand for one that is missing or too long.
+pub fn cut_lines<'a>(book: &'a [u8], text: &'a [u8], out: &mut [u8]) -> usize
+    requires { ⌜ cutRoom ≤ length (now out) ⌝ }
+    ensures { λ end. ⌜ Writes (cutPrint (now (book .entry)) (now (text .entry))) (now (out .entry)) (now (out .exit)) 0 end ⌝ }
+    ensures { λ end. ⌜ end ≤ length (now (out .exit)) ⌝ }
+{
+    if BOOK_FILE < book.len() {
+        return lines::put_refused(Refusal::Input, out, 0);
+    }
+    if TEXT_FILE < text.len() {
+        return lines::put_refused(Refusal::Input, out, 0);
+    }
     let mut labels = [0u8; STATES];
     let mut targets = [0u8; TABLE_CELLS];
     let mut work = [0u64; WORK_LENGTH];
-    match building::build(book, &mut labels, &mut targets, &mut work) {
-        Counted::States(count) => {
-            let mut kinds = [0usize; RULES];
-            words::look_up(book, &mut kinds);
-            print_words(count, &labels, &targets, text, &kinds);
-        }
-        Counted::Refused(r) => files::refuse(r),
-    }
-}
-
-pub fn run_cut() {
-    let mut book = [0u8; BOOK_FILE + 1];
-    let mut text = [0u8; TEXT_FILE + 1];
-    let book_end = files::read_named(b"words.book", &mut book);
-    let text_end = files::read_all(STDIN_FILENO, &mut text);
-    if BOOK_FILE < book_end {
-        files::refuse(Refusal::Input);
-        return;
-    }
-    if TEXT_FILE < text_end {
-        files::refuse(Refusal::Input);
-        return;
-    }
-    cut_text(&book[0..book_end], &text[0..text_end]);
+    cut_in(book, text, &mut labels, &mut targets, &mut work, out)
 }

@@ -1,10 +1,7 @@
-// Files and standard output: what the three programs share.
+// Reading files, which the three programs share. What is read is the system's; a promise can only say that it lies in the buffer.
 // A buffer for a file has one byte more than the file may have, so that a full buffer tells that the file is too long.
 ghost use Prim.Native.Nat.{_≤_};
 ghost use lib.ListN.{length};
-use libc::STDOUT_FILENO;
-use lines::LINE_ROOM;
-use number::Refusal;
 
 // Reads to the end, or until the buffer is full. A descriptor that cannot be read answers as one that has too much: both are refused alike.
 pub fn read_all(fd: i32, buffer: &mut [u8]) -> usize
@@ -27,11 +24,4 @@ pub fn read_named(name: &[u8], buffer: &mut [u8]) -> usize
     let n = read_all(fd, buffer);
     libc::close(fd);
     n
-}
-
-// A refusal is printed alone.
-pub fn refuse(r: Refusal) {
-    let mut out = [0u8; LINE_ROOM];
-    let end = lines::put_refused(r, &mut out, 0);
-    io::write_all(STDOUT_FILENO, &out[0..end]);
 }

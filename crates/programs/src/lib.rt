@@ -1,11 +1,15 @@
-// The programs, whole, as functions of a library: each reads its files and prints, so that thin programs can be run on several inputs.
-// No contract can say what is read or written; what is printed is put together by proved functions on slices.
+// What the three programs put out, as functions on slices: each takes the bytes that were read and a lent buffer.
+// specs/Print.antt says what stands in the buffer then; the programs themselves only read and write.
 mod compare;
 mod cut;
-mod files;
+pub mod files;
 mod sheet;
 mod words;
 
-pub use compare::run_compare;
-pub use cut::run_cut;
-pub use sheet::run_sheet;
+pub use compare::COMPARE_ROOM;
+pub use compare::compare_lines;
+pub use cut::CUT_ROOM;
+pub use cut::cut_lines;
+pub use sheet::Made;
+pub use sheet::SHEET_ROOM;
+pub use sheet::sheet_bytes;

@@ -1,6 +1,13 @@
-// Program sheet: builds the table of words.book and writes it to words.sheet; it prints only what is refused.
-// A refusal leaves the file as it was, since it is opened only when the sheet's bytes are there.
-use crate::files;
+// What program sheet puts out: the sheet of the table that a book builds, for its file; or a refusal's line, to be printed.
+// Both stand at the front of one buffer, and the answer tells which it is.
+ghost use Prim.Native.Nat.{_≤_};
+ghost use lib.ListN.{length};
+ghost use Rattle.number.specs.Limits.{states, tableCells};
+ghost use Rattle.number.specs.Refused.Outcome.{refuses};
+ghost use Rattle.table.specs.Formed.{longestSheet};
+ghost use Rattle.vector.specs.Layout.{workLength};
+ghost use Rattle.building.specs.Calls.{buildBook};
+ghost use Rattle.programs.specs.Print.{sheetBuilt, sheetOf, Makes};
 use number::Refusal;
 use number::limits::BOOK_FILE;
 use number::limits::BYTES;
@@ -11,48 +18,55 @@ use table::Written;
 use vector::layout::WORK_LENGTH;
 
 // The longest sheet: version and count in three bytes, and for each state a label, a run count in two bytes, and 256 runs of two.
-const SHEET_MOST: usize = 3 + STATES * (3 + 2 * BYTES);
+pub const SHEET_ROOM: usize = 3 + STATES * (3 + 2 * BYTES);
 
-fn save(sheet: &[u8], end: usize) {
-    if sheet.len() < end {
-        return;
-    }
-    let fd = os::open_overwrite(b"words.sheet");
-    if fd < 0 {
-        files::refuse(Refusal::Input);
-        return;
-    }
-    let whole = io::write_all(fd, &sheet[0..end]);
-    libc::close(fd);
-    if !whole {
-        files::refuse(Refusal::Input);
+// A sheet or a line of text, and where it ends.
+pub enum Made {
+    Sheet(usize),
+    Line(usize),
+}
+
+// A refusal, alone.
+fn refused(r: Refusal, out: &mut [u8]) -> Made
+    requires { ⌜ longestSheet ≤ length (now out) ⌝ }
+    ensures { λ m. ⌜ Makes (refuses r) (now (out .entry)) (now (out .exit)) m ⌝ }
+{
+    Made::Line(lines::put_refused(r, out, 0))
+}
+
+// The book's sheet, built in lent memory that is large enough.
+fn sheet_in(
+    book: &[u8],
+    labels: &mut [u8],
+    targets: &mut [u8],
+    work: &mut [u64],
+    out: &mut [u8],
+) -> Made
+    requires { ⌜ states ≤ length (now labels) ⌝ }
+    requires { ⌜ tableCells ≤ length (now targets) ⌝ }
+    requires { ⌜ workLength ≤ length (now work) ⌝ }
+    requires { ⌜ longestSheet ≤ length (now out) ⌝ }
+    ensures { λ m. ⌜ Makes (sheetBuilt (buildBook (now (book .entry)))) (now (out .entry)) (now (out .exit)) m ⌝ }
+{
+    match building::build(book, labels, targets, work) {
+        Counted::Refused(r) => refused(r, out),
+        Counted::States(count) => match table::write_sheet(count, labels, targets, out) {
+            Written::Bytes(end) => Made::Sheet(end),
+            Written::Unwritten(r) => refused(r, out),
+        },
     }
 }
 
-fn write_table<'a>(count: usize, labels: &'a [u8], targets: &'a [u8]) {
-    let mut sheet = [0u8; SHEET_MOST];
-    match table::write_sheet(count, labels, targets, &mut sheet) {
-        Written::Bytes(end) => save(&sheet, end),
-        Written::Unwritten(r) => files::refuse(r),
+// All that program sheet puts out for the bytes of its book; more bytes than a book may have stand for one that is missing or too long.
+pub fn sheet_bytes(book: &[u8], out: &mut [u8]) -> Made
+    requires { ⌜ longestSheet ≤ length (now out) ⌝ }
+    ensures { λ m. ⌜ Makes (sheetOf (now (book .entry))) (now (out .entry)) (now (out .exit)) m ⌝ }
+{
+    if BOOK_FILE < book.len() {
+        return refused(Refusal::Input, out);
     }
-}
-
-fn build_sheet(book: &[u8]) {
     let mut labels = [0u8; STATES];
     let mut targets = [0u8; TABLE_CELLS];
     let mut work = [0u64; WORK_LENGTH];
-    match building::build(book, &mut labels, &mut targets, &mut work) {
-        Counted::States(count) => write_table(count, &labels, &targets),
-        Counted::Refused(r) => files::refuse(r),
-    }
-}
-
-pub fn run_sheet() {
-    let mut book = [0u8; BOOK_FILE + 1];
-    let end = files::read_named(b"words.book", &mut book);
-    if BOOK_FILE < end {
-        files::refuse(Refusal::Input);
-        return;
-    }
-    build_sheet(&book[0..end]);
+    sheet_in(book, &mut labels, &mut targets, &mut work, out)
 }

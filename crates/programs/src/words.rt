@@ -1,20 +1,20 @@
-// The lines of a cut: turn by turn, each turn into the same records and the same buffer.
-// specs/Output.antt says what a turn prints, and specs/Turns.antt that the turns together print what one would.
-ghost use Prim.Native.Nat.{ℕ, _+_, _*_, _/_, _^_, _<_, _≤_};
+// The lines of a cut: turn by turn, each turn into the same records and on in the same buffer.
+// specs/Output.antt says what a turn puts, and specs/Turns.antt that the turns together put what one would.
+ghost use Prim.Native.Nat.{ℕ, _+_, _-_, _*_, _/_, _^_, _<_, _≤_};
 ghost use mathlib.Core.Path.{_≡_};
 ghost use lib.ListN.{length, getD, drop};
 ghost use Rattle.table.specs.Promises.{Writes};
 ghost use Rattle.cutting.specs.Flat.{recordCells};
 ghost use Rattle.lines.specs.Lines.{lineRoom};
-ghost use Rattle.programs.specs.Output.{kindIn as kindOfRule, Kinds, cellLines, turnOf, Turned};
+ghost use Rattle.programs.specs.Output.{kindIn as kindOfRule, Kinds, kindBy, cellLines, turnOf, Turned};
 use book::RuleKind;
 use cutting::Ended;
 
 // The cells of a record: start, length, rule.
-pub const RECORD_CELLS: usize = 3;
+pub(crate) const RECORD_CELLS: usize = 3;
 
 // How a turn ends: on from a place with so many words so far, or nothing more; and where its lines end.
-pub enum Turn {
+pub(crate) enum Turn {
     Onward(usize, usize, usize),
     Last(usize),
 }
@@ -31,7 +31,7 @@ fn kind_in(book: &[u8], rule: usize) -> usize
 }
 
 // The kinds of a book's rules, looked up once for all words.
-pub fn look_up(book: &[u8], kinds: &mut [usize])
+pub(crate) fn look_up(book: &[u8], kinds: &mut [usize])
     ensures { λ _. ⌜ Kinds (now (book .entry)) (now (kinds .exit)) ⌝ }
 {
     let mut i: usize = 0;
@@ -61,7 +61,7 @@ fn put_words(
 ) -> usize
     requires { ⌜ recordCells * (k + left) ≤ length (now records) ⌝ }
     requires { ⌜ at + lineRoom * left ≤ length (now out) ⌝ }
-    ensures { λ next. ⌜ Writes (cellLines (now (kinds .entry)) (drop (recordCells * k) (now (records .entry))) left)
+    ensures { λ next. ⌜ Writes (cellLines (kindBy (now (kinds .entry))) (drop (recordCells * k) (now (records .entry))) left)
         (now (out .entry)) (now (out .exit)) at next ⌝ }
     ensures { λ next. ⌜ next ≤ at + lineRoom * left ⌝ }
 {
@@ -75,8 +75,8 @@ fn put_words(
     put_words(records, kinds, k + 1, left - 1, out, next)
 }
 
-// Cuts on from a place, and puts the lines of the words at the front of the buffer; where the text ends or is stuck, the last line too.
-pub fn cut_turn<'a>(
+// Cuts on from a place, and puts the lines of the words into the buffer; where the text ends or is stuck, the last line too.
+pub(crate) fn cut_turn<'a>(
     count: usize,
     labels: &'a [u8],
     targets: &'a [u8],
@@ -86,26 +86,27 @@ pub fn cut_turn<'a>(
     kinds: &[usize],
     records: &mut [usize],
     out: &mut [u8],
+    at: usize,
 ) -> Turn
-    requires { ⌜ lineRoom * (length (now records) / recordCells + 1) ≤ length (now out) ⌝ }
-    requires { ⌜ total + length (now records) / recordCells < 2 ^ 64 ⌝ }
-    ensures { λ r. ⌜ Turned (now (kinds .entry)) total (length (now (records .entry)) / recordCells)
+    requires { ⌜ at + lineRoom * (length (now text) - place + 1) ≤ length (now out) ⌝ }
+    requires { ⌜ total + (length (now text) - place) < 2 ^ 64 ⌝ }
+    ensures { λ r. ⌜ Turned (kindBy (now (kinds .entry))) total
         (turnOf count (now (labels .entry)) (now (targets .entry)) (now (text .entry)) place (length (now (records .entry)) / recordCells))
-        (now (out .entry)) (now (out .exit)) r ⌝ }
+        (now (out .entry)) (now (out .exit)) at r ⌝ }
 {
     match cutting::cut_from(count, labels, targets, text, place, records) {
         Ended::Done(n) => {
-            let at = put_words(records, kinds, 0, n, out, 0);
-            Turn::Last(lines::put_done(total + n, out, at))
+            let next = put_words(records, kinds, 0, n, out, at);
+            Turn::Last(lines::put_done(total + n, out, next))
         }
         Ended::Stuck(n, stuck) => {
-            let at = put_words(records, kinds, 0, n, out, 0);
-            Turn::Last(lines::put_stuck(stuck, out, at))
+            let next = put_words(records, kinds, 0, n, out, at);
+            Turn::Last(lines::put_stuck(stuck, out, next))
         }
         Ended::Full(n, full) => {
-            let at = put_words(records, kinds, 0, n, out, 0);
-            Turn::Onward(full, total + n, at)
+            let next = put_words(records, kinds, 0, n, out, at);
+            Turn::Onward(full, total + n, next)
         }
-        Ended::Refused(r) => Turn::Last(lines::put_refused(r, out, 0)),
+        Ended::Refused(r) => Turn::Last(lines::put_refused(r, out, at)),
     }
 }

@@ -25,7 +25,7 @@ fn tried_kind(name: &[u8], bytes: &[u8], rule: usize) {
 }
 
 // Version, rule count, kind, node count.
-pub fn heads() {
+pub(crate) fn heads() {
     tried(b"no bytes", b"");
     tried(b"version alone", b"\x01");
     tried(b"version 0", b"\x00\x01\x00\x01\x01");
@@ -40,7 +40,7 @@ pub fn heads() {
 }
 
 // Codes and what follows them. A byte of 128 and up takes two groups.
-pub fn nodes() {
+pub(crate) fn nodes() {
     tried(b"code 6", b"\x01\x01\x00\x01\x06\x61");
     tried(b"code 7", b"\x01\x01\x00\x01\x07");
     tried(b"lo and hi 200", b"\x01\x01\x00\x01\x02\xc8\x01\xc8\x01");
@@ -54,7 +54,7 @@ pub fn nodes() {
 }
 
 // Terms that lack or are left, and bytes after the end.
-pub fn stacks() {
+pub(crate) fn stacks() {
     tried(b"Star of nothing before it", b"\x01\x01\x00\x01\x05");
     tried(b"Cat of one term", b"\x01\x01\x00\x02\x01\x03");
     tried(b"Alt of one term", b"\x01\x01\x00\x02\x01\x04");
@@ -73,7 +73,7 @@ pub fn stacks() {
 }
 
 // A rule of kind 1 with the one node Empty is three times the byte 1.
-pub fn limits() {
+pub(crate) fn limits() {
     let mut most = [1u8; 98];
     most[1] = 32;
     tried(b"32 rules", &most);
@@ -93,7 +93,7 @@ pub fn limits() {
 }
 
 // Two rules, each Empty under many Stars: 256 nodes, and 256 or 257 more.
-pub fn totals() {
+pub(crate) fn totals() {
     let mut nodes = [5u8; 520];
     nodes[0] = 1;
     nodes[1] = 2;
@@ -111,7 +111,7 @@ pub fn totals() {
 }
 
 // W, whole, a byte early and a byte late.
-pub fn sample() {
+pub(crate) fn sample() {
     tried(
         b"W",
         b"\x01\x04\x01\x03\x02\x74\x74\x02\x6f\x6f\x03\x02\x04\x02\x61\x7a\x02\x61\x7a\x05\x03\x03\x04\x02\x30\x39\x02\x30\x39\x05\x03\x00\x01\x02\x20\x20",
@@ -127,7 +127,7 @@ pub fn sample() {
 }
 
 // Kinds of W's rules, of a rule that it lacks, and of a rule of no book.
-pub fn kinds() {
+pub(crate) fn kinds() {
     tried_kind(
         b"0 of W",
         b"\x01\x04\x01\x03\x02\x74\x74\x02\x6f\x6f\x03\x02\x04\x02\x61\x7a\x02\x61\x7a\x05\x03\x03\x04\x02\x30\x39\x02\x30\x39\x05\x03\x00\x01\x02\x20\x20",

@@ -27,6 +27,7 @@ fn main() {
     tables::unformed();
     cuts::sample();
     cuts::rooms();
+    cuts::starts();
     cuts::corners();
     cuts::long();
 }

@@ -23,7 +23,7 @@ fn tried_field(name: &[u8], bytes: &[u8], lo: usize, hi: usize) {
     tell(number::read_field(bytes, 0, lo, hi));
 }
 
-pub fn refused() {
+pub(crate) fn refused() {
     tried(b"no bytes", b"", 0);
     tried(b"80", b"\x80", 0);
     tried(b"80 80", b"\x80\x80", 0);
@@ -35,7 +35,7 @@ pub fn refused() {
     tried(b"80 80 80 01", b"\x80\x80\x80\x01", 0);
 }
 
-pub fn read() {
+pub(crate) fn read() {
     tried(b"00", b"\x00", 0);
     tried(b"7F", b"\x7f", 0);
     tried(b"80 01", b"\x80\x01", 0);
@@ -46,7 +46,7 @@ pub fn read() {
     tried(b"05 AC 02 05 at 1", b"\x05\xac\x02\x05", 1);
 }
 
-pub fn fields() {
+pub(crate) fn fields() {
     tried_field(b"20 from 1 to 32", b"\x20", 1, 32);
     tried_field(b"21 from 1 to 32", b"\x21", 1, 32);
     tried_field(b"00 from 1 to 32", b"\x00", 1, 32);

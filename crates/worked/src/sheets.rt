@@ -57,7 +57,7 @@ fn tried_back(name: &[u8], sheet: &[u8]) {
 }
 
 // Version, state count, label, run count, length, target.
-pub fn heads() {
+pub(crate) fn heads() {
     tried(b"no bytes", b"");
     tried(b"version 0", b"\x00\x01\x00\x01\x80\x02\x00");
     tried(b"version 2", b"\x02\x01\x00\x01\x80\x02\x00");
@@ -73,7 +73,7 @@ pub fn heads() {
 }
 
 // Runs that do not cover the bytes once, and bytes that lack or are left.
-pub fn runs() {
+pub(crate) fn runs() {
     tried(b"length in a long form", b"\x01\x01\x00\x01\x81\x00\x00");
     tried(b"target missing", b"\x01\x01\x00\x01\x80\x02");
     tried(b"sum passes 256", b"\x01\x02\x00\x02\x80\x02\x00\x01\x01");
@@ -122,7 +122,7 @@ fn put_states(sheet: &mut [u8]) {
 }
 
 // The most states, and one more.
-pub fn sizes() {
+pub(crate) fn sizes() {
     let mut most = [0u8; 643];
     put_states(&mut most);
     most[0] = 1;
@@ -139,7 +139,7 @@ pub fn sizes() {
 }
 
 // Read and written back.
-pub fn back() {
+pub(crate) fn back() {
     tried_back(b"1 state", b"\x01\x01\x00\x01\x80\x02\x00");
     tried_back(b"label 32", b"\x01\x01\x20\x01\x80\x02\x00");
     tried_back(

@@ -24,7 +24,7 @@ fn tried_write<'a>(name: &[u8], count: usize, labels: &'a [u8], targets: &'a [u8
 }
 
 // Areas below full size, and one that is longer.
-pub fn rooms() {
+pub(crate) fn rooms() {
     let sheet = b"\x01\x01\x00\x01\x80\x02\x00";
     let mut labels = [0u8; STATES];
     let mut targets = [0u8; TABLE_CELLS];
@@ -38,7 +38,7 @@ pub fn rooms() {
 }
 
 // Output that is long enough, and too short; what stands past the first state does not matter.
-pub fn written() {
+pub(crate) fn written() {
     let labels = [0u8, 99];
     let mut targets = [0u8; 2 * BYTES];
     targets[300] = 99;
@@ -51,7 +51,7 @@ pub fn written() {
 }
 
 // Not well formed, one way after another; so is the last, whose output is too short besides.
-pub fn unformed() {
+pub(crate) fn unformed() {
     let labels = [0u8, 33];
     let mut targets = [0u8; 2 * BYTES];
     let many_labels = [0u8; STATES + 1];

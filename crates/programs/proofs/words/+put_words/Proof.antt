@@ -4,6 +4,7 @@ use native.Mathlib.Omega.{arith}
 use mathlib.Core.Path.{_≡_}
 use lib.ListN.{drop}
 use Rattle.cutting.specs.Flat.{recordCells}
+use Rattle.programs.specs.Output.{kindBy}
 use Rattle.programs.specs.OutputLaws.{lines-none, lines-more}
 use borrow.Author.Needs.{needs}
 use Prim.Native.Nat.{ℕ, suc, _-_, _*_, _<_}
@@ -35,7 +36,7 @@ module _ (t : ℕ) where
   returns : put-words-lts.Need-returns (K t) (put-words-at t) put-words.Post
   returns c =
       let a = c .before .before .before .before .args in
-      (lines-none (a .kinds .now) (drop (recordCells * a .k) (a .records .now)) (a .out .now) (a .left) (a .at) (c .if1 .taken), omega arith)
+      (lines-none (kindBy (a .kinds .now)) (drop (recordCells * a .k) (a .records .now)) (a .out .now) (a .left) (a .at) (c .if1 .taken), omega arith)
 
   mul-cell : put-words-lts.Need-mul-cell (K t) (put-words-at t) put-words.Post
   mul-cell c = omega (arith, c .before .before .before .before .pre .1 .0, c .before .before .before .before .good)
@@ -90,7 +91,7 @@ module _ (t : ℕ) where
       let others = c .before .before .put-words in
       let some = c .before .before .before .before .before .before .before .before .before .before .before .before .if1 .left in
       let more : a .left ≡ suc (a .left - 1) = omega (arith, some) in (
-        lines-more (a .kinds .now) (a .records .now) (a .k) (a .left) (a .left - 1) _ more (omega (arith, start .pre .1 .1))
+        lines-more (kindBy (a .kinds .now)) (a .records .now) (a .k) (a .left) (a .left - 1) _ more (omega (arith, start .pre .1 .1))
             (c .before .before .before .before .before .before .before .before .before .before .kind-at .ensures) (first .ensures .0) (others .ensures .0),
         omega (arith, some, first .ensures .1, others .ensures .1),
       )

@@ -1,0 +1,144 @@
+// Prints what the three programs print on stored inputs, each under a line that names the case.
+// A name with no file stands for a missing file. The sheet that program sheet would write is shown in hexadecimal.
+ghost use Prim.Native.Nat.{_≤_};
+ghost use mathlib.Core.Path.{_≡_};
+ghost use lib.ListN.{length};
+ghost use Rattle.table.specs.Formed.{longestSheet};
+ghost use Rattle.programs.specs.Print.{cutRoom};
+use libc::STDOUT_FILENO;
+use number::limits::BOOK_FILE;
+use number::limits::SHEET_FILE;
+use number::limits::TEXT_FILE;
+use programs::COMPARE_ROOM;
+use programs::CUT_ROOM;
+use programs::Made;
+use programs::SHEET_ROOM;
+use programs::files;
+
+// The buffer for all lines of a cut. Only its length is told: a prover that sees so many cells goes through them.
+fn room() -> [u8; CUT_ROOM]
+    ensures { λ r. ⌜ cutRoom ≡ length r ⌝ }
+{
+    [0; CUT_ROOM]
+}
+
+fn cut(title: &[u8], book_name: &[u8], text_name: &[u8]) {
+    let mut book = [0u8; BOOK_FILE + 1];
+    let mut text = [0u8; TEXT_FILE + 1];
+    let mut out = room();
+    let book_end = files::read_named(book_name, &mut book);
+    let text_end = files::read_named(text_name, &mut text);
+    let end = programs::cut_lines(&book[0..book_end], &text[0..text_end], &mut out);
+    io::write_all(STDOUT_FILENO, title);
+    io::write_all(STDOUT_FILENO, &out[0..end]);
+}
+
+fn compare(title: &[u8], book_name: &[u8], sheet_name: &[u8]) {
+    let mut book = [0u8; BOOK_FILE + 1];
+    let mut sheet = [0u8; SHEET_FILE + 1];
+    let mut out = [0u8; COMPARE_ROOM];
+    let book_end = files::read_named(book_name, &mut book);
+    let sheet_end = files::read_named(sheet_name, &mut sheet);
+    let end = programs::compare_lines(&book[0..book_end], &sheet[0..sheet_end], &mut out);
+    io::write_all(STDOUT_FILENO, title);
+    io::write_all(STDOUT_FILENO, &out[0..end]);
+}
+
+fn show(sheet: &[u8])
+    requires { ⌜ length (now sheet) ≤ longestSheet ⌝ }
+{
+    let mut out = [0u8; 2 * SHEET_ROOM + 1];
+    let end = lines::put_hex_line(sheet, 0, &mut out, 0);
+    io::write_all(STDOUT_FILENO, &out[0..end]);
+}
+
+fn sheet(title: &[u8], book_name: &[u8]) {
+    let mut book = [0u8; BOOK_FILE + 1];
+    let mut out = [0u8; SHEET_ROOM];
+    let book_end = files::read_named(book_name, &mut book);
+    let made = programs::sheet_bytes(&book[0..book_end], &mut out);
+    io::write_all(STDOUT_FILENO, title);
+    match made {
+        Made::Sheet(end) => show(&out[0..end]),
+        Made::Line(end) => {
+            io::write_all(STDOUT_FILENO, &out[0..end]);
+        }
+    }
+}
+
+fn cuts() {
+    cut(b"cut: the sample\n", b"w.book", b"w.text");
+    cut(
+        b"cut: a byte that no rule matches\n",
+        b"w.book",
+        b"stuck.text",
+    );
+    cut(
+        b"cut: more words than one list of records holds\n",
+        b"w.book",
+        b"many.text",
+    );
+    cut(
+        b"cut: every byte, each a word\n",
+        b"any.book",
+        b"every.text",
+    );
+    cut(
+        b"cut: every byte, by the sample book\n",
+        b"w.book",
+        b"every.text",
+    );
+    cut(
+        b"cut: a book that ends a byte early\n",
+        b"early.book",
+        b"w.text",
+    );
+    cut(b"cut: no book\n", b"no.book", b"w.text");
+    cut(
+        b"cut: no text, and a book that ends a byte early\n",
+        b"early.book",
+        b"no.text",
+    );
+}
+
+fn comparisons() {
+    compare(
+        b"compare: the sample's own sheet\n",
+        b"w.book",
+        b"own.sheet",
+    );
+    compare(
+        b"compare: the state after t merged with that of the letters\n",
+        b"w.book",
+        b"merged.sheet",
+    );
+    compare(b"compare: no book\n", b"no.book", b"own.sheet");
+    compare(
+        b"compare: no sheet, and a book that ends a byte early\n",
+        b"early.book",
+        b"no.sheet",
+    );
+    compare(
+        b"compare: a book that ends a byte early\n",
+        b"early.book",
+        b"own.sheet",
+    );
+    compare(
+        b"compare: a sheet that ends a byte early\n",
+        b"w.book",
+        b"early.sheet",
+    );
+    compare(
+        b"compare: both end a byte early\n",
+        b"early.book",
+        b"early.sheet",
+    );
+}
+
+fn main() {
+    cuts();
+    comparisons();
+    sheet(b"sheet: the sample\n", b"w.book");
+    sheet(b"sheet: a book that ends a byte early\n", b"early.book");
+    sheet(b"sheet: no book\n", b"no.book");
+}
