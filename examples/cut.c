@@ -28,6 +28,13 @@ static size_t build(size_t length)
     return answer[0];
 }
 
+/* The kind of a rule that there is. */
+static size_t kind_of(size_t rule)
+{
+    size_t answer[LUBI_ANSWER];
+    return lubi_rule_kind(book, sizeof book, rule, answer) == LUBI_GIVEN && answer[0] == LUBI_KIND ? answer[1] : 0;
+}
+
 /* Cuts the text with room for two words at a time, and goes on where the records were full. */
 static void cut(size_t count, const char *text)
 {
@@ -42,7 +49,7 @@ static void cut(size_t count, const char *text)
         }
         for (size_t k = 0; k < answer[1]; k++) {
             const size_t *word = records + k * LUBI_RECORD;
-            printf("  word at %zu, length %zu, rule %zu\n", word[0], word[1], word[2]);
+            printf("  word at %zu, length %zu, rule %zu, kind %zu\n", word[0], word[1], word[2], kind_of(word[2]));
         }
         if (answer[0] != LUBI_FULL)
             break;
@@ -66,6 +73,8 @@ static void keep(size_t count)
     code = lubi_load(sheet, length, labels_read, LUBI_STATES, targets_read, LUBI_TARGETS, answer);
     printf("read back: code %zu, %zu states, %s\n", code, answer[0],
         memcmp(labels, labels_read, sizeof labels) == 0 && memcmp(targets, targets_read, sizeof targets) == 0 ? "the same" : "not the same");
+    code = lubi_well_formed(answer[0], labels_read, LUBI_STATES, targets_read, LUBI_TARGETS, answer);
+    printf("well formed: code %zu\n", code);
     code = lubi_load(sheet, length - 1, labels_read, LUBI_STATES, targets_read, LUBI_TARGETS, answer);
     printf("one byte early: refused %zu at %zu\n", code, answer[0]);
 }

@@ -15,7 +15,8 @@
    AREAS. `labels` has one cell a state and `targets` 256, and they are a table together with a count of states. Where a call fills a
    table, labels has at least LUBI_STATES cells and targets LUBI_TARGETS; where a call reads one, as many as its count asks for.
    A work area has at least LUBI_WORK cells of 64 bits, and a text area at least LUBI_TEXT bytes. No length is too long.
-   What a work area holds before a call does not matter; afterwards it is all 0, but after LUBI_ROOM, which changes no area. */
+   What a work area holds before a call does not matter; afterwards it is all 0, but after LUBI_ROOM, which changes no area.
+   Building and comparing keep some 82,000 bytes of their own on the stack besides. */
 #ifndef LUBIRANGUK_H
 #define LUBIRANGUK_H
 
@@ -54,6 +55,9 @@ enum {
     LUBI_INPUT = 13 /* programs only: no call here gives it */
 };
 
+/* whether there is such a rule */
+enum { LUBI_NO_RULE = 0, LUBI_KIND = 1 };
+
 /* how a cut ended */
 enum { LUBI_DONE = 0, LUBI_STUCK = 1, LUBI_FULL = 2 };
 
@@ -64,6 +68,16 @@ enum { LUBI_SAME = 0, LUBI_DIFFERS = 1 };
    answer: the number of rules, the number of nodes of all rules together.
    Refuses what is wrong in the book, at the byte where it is wrong: 1 to 5. */
 size_t lubi_check_book(const uint8_t *book, size_t book_length, size_t answer[LUBI_ANSWER]);
+
+/* Tells the kind of a rule of a book, rules counting from 0.
+   answer: LUBI_KIND and the kind; or LUBI_NO_RULE, where the book has no such rule.
+   Refuses what is wrong in the book, as lubi_check_book does. */
+size_t lubi_rule_kind(const uint8_t *book, size_t book_length, size_t rule, size_t answer[LUBI_ANSWER]);
+
+/* Tests a table: code 0 where it is well formed, and no number is told; else LUBI_LOADED. Calls that read a table make this test
+   themselves. */
+size_t lubi_well_formed(size_t count, const uint8_t *labels, size_t labels_length, const uint8_t *targets, size_t targets_length,
+    size_t answer[LUBI_ANSWER]);
 
 /* Builds a rule book's table.
    answer: the number of states. Cells of labels and targets past those states are 0, to the end of the lent areas.

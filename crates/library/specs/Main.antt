@@ -6,14 +6,15 @@ use mathlib.Core.List.{List}
 use Rattle.number.specs.declared.Refusal.the-variants.{Short, Number, Range, Stack, Tail, Long, Pool, States, Runs, Loaded, Room, Pairs, Input}
 use Rattle.number.specs.Refused.{Outcome}
 use Rattle.number.specs.Refused.Outcome.{gives, refuses}
-use Rattle.book.specs.Calls.{Size}
+use Rattle.book.specs.Calls.{Size, Told as KindTold}
+use Rattle.book.specs.Calls.Told.{kind, none}
 use Rattle.cutting.specs.Cut.{Ending}
 use Rattle.cutting.specs.Cut.Ending.{Done, StuckAt, FullAt}
 use Rattle.cutting.specs.Calls.{Report}
 use Rattle.comparing.specs.Calls.{Told}
 use Rattle.comparing.specs.Calls.Told.{same, differs}
-use Rattle.library.specs.Packed.{packed, toldCount, toldSize, toldReport, toldCompared}
-use Rattle.library.specs.Unpacked.{unpacked, countIn, sizeIn, reportIn, comparedIn}
+use Rattle.library.specs.Packed.{packed, toldCount, toldSize, toldKind, toldReport, toldCompared}
+use Rattle.library.specs.Unpacked.{unpacked, countIn, sizeIn, kindIn, reportIn, comparedIn}
 
 -- for an answer of any kind whose numbers can be read back
 module _ {A : Type 0} (told : A → List ℕ) (read : List ℕ → A) (back : (x : A) → read (told x) ≡ x) where
@@ -38,6 +39,10 @@ ending-back Done n = refl
 ending-back (StuckAt at) n = refl
 ending-back (FullAt at) n = refl
 
+kind-back : (x : KindTold) → kindIn (toldKind x) ≡ x
+kind-back (kind n) = refl
+kind-back none = refl
+
 compared-back : (x : Told) → comparedIn (toldCompared x) ≡ x
 compared-back same = refl
 compared-back (differs n book table) = refl
@@ -47,6 +52,9 @@ the-count-back = packed-back toldCount countIn (λ n. refl)
 
 pub the-size-back : (x : Outcome Size) → unpacked sizeIn (packed toldSize x) ≡ x
 the-size-back = packed-back toldSize sizeIn (λ s. refl)
+
+pub the-kind-back : (x : Outcome KindTold) → unpacked kindIn (packed toldKind x) ≡ x
+the-kind-back = packed-back toldKind kindIn kind-back
 
 pub the-report-back : (x : Outcome Report) → unpacked reportIn (packed toldReport x) ≡ x
 the-report-back = packed-back toldReport reportIn (λ r. ending-back (r .ending) (r .count))

@@ -1,10 +1,13 @@
 -- How an answer reaches C, one scheme for every call: the call returns a code and writes four numbers into cells that the caller lends.
 -- Code 0 says that the call gave its answer, and the cells hold its numbers; any other code is the paper's number of a refusal, and the first cell holds its place.
 use Prim.Native.Nat.{ℕ}
+use mathlib.Core.Bool.{Bool, true, false}
 use mathlib.Core.List.{List, [], _∷_}
+use Rattle.number.specs.declared.Refusal.the-variants.{Loaded}
 use Rattle.number.specs.Refused.{Outcome, number, place}
 use Rattle.number.specs.Refused.Outcome.{gives, refuses}
-use Rattle.book.specs.Calls.{Size}
+use Rattle.book.specs.Calls.{Size, Told as KindTold}
+use Rattle.book.specs.Calls.Told.{kind, none}
 use Rattle.cutting.specs.Cut.{Ending}
 use Rattle.cutting.specs.Cut.Ending.{Done, StuckAt, FullAt}
 use Rattle.cutting.specs.Calls.{Report}
@@ -34,6 +37,16 @@ toldCount n = four n 0 0 0
 -- a book's rules, then its nodes
 abbrev pub toldSize : Size → List ℕ
 toldSize s = four (s .rules) (s .nodes) 0 0
+
+-- a rule's kind behind a 1, or a 0 where there is no such rule
+abbrev pub toldKind : KindTold → List ℕ
+toldKind (kind n) = four 1 n 0 0
+toldKind none = four 0 0 0 0
+
+-- a table that is well formed, with no number to tell, or the refusal of one that is not
+abbrev pub tested : Bool → Outcome ℕ
+tested true = gives 0
+tested false = refuses Loaded
 
 -- how a cut ended (0 Done, 1 Stuck, 2 Full), its words, and the place, which is 0 for Done
 abbrev pub toldEnding : Ending → ℕ → List ℕ

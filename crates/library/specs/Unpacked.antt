@@ -9,7 +9,8 @@ use Rattle.number.specs.declared.Refusal.{Refusal}
 use Rattle.number.specs.declared.Refusal.the-variants.{Short, Number, Range, Stack, Tail, Long, Pool, States, Runs, Loaded, Room, Pairs, Input}
 use Rattle.number.specs.Refused.{Outcome}
 use Rattle.number.specs.Refused.Outcome.{gives, refuses}
-use Rattle.book.specs.Calls.{Size}
+use Rattle.book.specs.Calls.{Size, Told as KindTold}
+use Rattle.book.specs.Calls.Told.{kind, none}
 use Rattle.cutting.specs.Cut.{Ending}
 use Rattle.cutting.specs.Cut.Ending.{Done, StuckAt, FullAt}
 use Rattle.cutting.specs.Calls.{Report}
@@ -47,8 +48,11 @@ countIn cells = cell cells 0
 abbrev pub sizeIn : List ℕ → Size
 sizeIn cells = record { rules = cell cells 0; nodes = cell cells 1 }
 
+abbrev pub kindIn : List ℕ → KindTold
+kindIn cells = cond (eqb (cell cells 0) 0) none (kind (cell cells 1))
+
 abbrev pub endingOf : ℕ → ℕ → Ending
-endingOf kind at = cond (eqb kind 0) Done (cond (eqb kind 1) (StuckAt at) (FullAt at))
+endingOf how at = cond (eqb how 0) Done (cond (eqb how 1) (StuckAt at) (FullAt at))
 
 abbrev pub reportIn : List ℕ → Report
 reportIn cells = record { ending = endingOf (cell cells 0) (cell cells 2); count = cell cells 1 }

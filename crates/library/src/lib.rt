@@ -2,14 +2,16 @@
 // Every input is taken; include/lubiranguk.h is the same list of calls in C's words.
 ghost use mathlib.Core.Path.{_≡_};
 ghost use Rattle.number.specs.Refused.{number, place};
-ghost use Rattle.book.specs.Calls.{checked, checkOf};
+ghost use Rattle.book.specs.Calls.{checked, checkOf, told, kindOf};
+ghost use Rattle.table.specs.Table.{wellFormed};
 ghost use Rattle.table.specs.Calls.{counted, wrote, loadOf, writeOf};
 ghost use Rattle.cutting.specs.Calls.{ended};
 ghost use Rattle.cutting.specs.Flat.{cutCellsOf};
 ghost use Rattle.building.specs.Calls.{buildOf};
 ghost use Rattle.comparing.specs.Calls.{compared, compareOf};
-ghost use Rattle.library.specs.Packed.{left, four, packed, toldCount, toldSize, toldReport, toldCompared};
+ghost use Rattle.library.specs.Packed.{left, four, packed, tested, toldCount, toldSize, toldKind, toldReport, toldCompared};
 use book::Checked;
+use book::RuleKind;
 use comparing::Compared;
 use cutting::Ended;
 use number::Refusal;
@@ -21,6 +23,11 @@ const CELLS: usize = 4;
 
 // The code of a call that gave its answer.
 const GIVEN: usize = 0;
+
+// Whether there is such a rule.
+const NO_RULE: usize = 0;
+
+const KIND: usize = 1;
 
 // How a cut ended.
 const DONE: usize = 0;
@@ -58,6 +65,16 @@ fn tell_size(answer: &mut [usize; CELLS], found: Checked) -> usize
     match found {
         Checked::Counts(rules, nodes) => give(answer, rules, nodes, 0, 0),
         Checked::Refused(r) => refuse(answer, r),
+    }
+}
+
+fn tell_kind(answer: &mut [usize; CELLS], found: RuleKind) -> usize
+    ensures { λ code. ⌜ left code (now (answer .exit)) ≡ packed toldKind (told found) ⌝ }
+{
+    match found {
+        RuleKind::Kind(n) => give(answer, KIND, n, 0, 0),
+        RuleKind::NoRule => give(answer, NO_RULE, 0, 0, 0),
+        RuleKind::Unknown(r) => refuse(answer, r),
     }
 }
 
@@ -107,6 +124,32 @@ pub extern "C" fn lubi_check_book(book: &[u8], answer: &mut [usize; CELLS]) -> u
 {
     let found = book::check_book(book);
     tell_size(answer, found)
+}
+
+// The kind of a rule, or that the book has no such rule.
+#[no_mangle]
+pub extern "C" fn lubi_rule_kind(book: &[u8], rule: usize, answer: &mut [usize; CELLS]) -> usize
+    ensures { λ code. ⌜ left code (now (answer .exit)) ≡ packed toldKind (kindOf (now (book .entry)) rule) ⌝ }
+{
+    let found = book::rule_kind(book, rule);
+    tell_kind(answer, found)
+}
+
+// Whether a table is well formed; no number is told of one that is.
+#[no_mangle]
+pub extern "C" fn lubi_well_formed<'a>(
+    count: usize,
+    labels: &'a [u8],
+    targets: &'a [u8],
+    answer: &mut [usize; CELLS],
+) -> usize
+    ensures { λ code. ⌜ left code (now (answer .exit))
+        ≡ packed toldCount (tested (wellFormed count (now (labels .entry)) (now (targets .entry)))) ⌝ }
+{
+    if table::well_formed(count, labels, targets) {
+        return give(answer, 0, 0, 0, 0);
+    }
+    refuse(answer, Refusal::Loaded)
 }
 
 // A book is built into the table area.
