@@ -11,12 +11,11 @@ use borrow.Author.Tests.{eq-eqb, ne-eqb}
 use lib.Dec.{eqb}
 use lib.ListN.{length, getD, drop, set, replicate, drop-of-length-le}
 use lib.Seq.{drop-cons}
-use Rattle.number.specs.Lists.{written, written-length, written-more, stored-one}
+use Rattle.number.specs.Lists.{written, written-length, written-more, stored-one, Writes}
 use Rattle.meaning.specs.Re.{Text}
 use Rattle.meaning.specs.Rules.{label}
 use Rattle.table.specs.Table.{Table}
 use Rattle.table.specs.Calls.{padded}
-use Rattle.table.specs.Promises.{Writes}
 use Rattle.walk.specs.Walk.{none}
 use Rattle.walk.specs.TextLaws.{length-snoc}
 use Rattle.vector.specs.Layout.{sheetsAt, parentsAt, bytesAt}

@@ -3,7 +3,7 @@
 ghost use Prim.Native.Nat.{_+_, _<_, _≤_};
 ghost use lib.ListN.{length};
 ghost use Rattle.number.specs.Limits.{bytes, pairs, workCells};
-ghost use Rattle.table.specs.Promises.{Writes};
+ghost use Rattle.number.specs.Lists.{Writes};
 ghost use Rattle.walk.specs.Walk.{row, rows, walkFrom};
 ghost use Rattle.pool.specs.Index.{Indexed};
 ghost use Rattle.vector.specs.Layout.{workLength};

@@ -6,10 +6,8 @@ use mathlib.Core.Path.{_≡_}
 use mathlib.Core.List.{List, [], _∷_, _++_}
 use lib.ListN.{length, drop, getD, length-append, drop-of-length-le}
 use Rattle.number.specs.declared.Refusal.{Refusal}
-use Rattle.number.specs.Lists.{drop-one}
+use Rattle.number.specs.Lists.{drop-one, Writes, writes-none, writes-then}
 use Rattle.number.specs.Refused.{number, place}
-use Rattle.table.specs.Promises.{Writes}
-use Rattle.table.specs.WritingLaws.{writes-none, writes-then}
 use Rattle.lines.specs.Digits.{digit, decimal, hex}
 use Rattle.lines.specs.Lines.{space, newline, doneWord, stuckWord, refusedWord, differsWord}
 use Rattle.lines.specs.Lines.{item, wordLine, doneLine, stuckLine, refusedLine, differsLine, hexLine, itemRoom}

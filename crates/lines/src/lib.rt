@@ -4,7 +4,7 @@ ghost use Prim.Native.Nat.{_+_, _-_, _*_, _<_, _≤_};
 ghost use mathlib.Core.Path.{_≡_};
 ghost use mathlib.Core.List.{[], _∷_};
 ghost use lib.ListN.{length, drop};
-ghost use Rattle.table.specs.Promises.{Writes};
+ghost use Rattle.number.specs.Lists.{Writes};
 ghost use Rattle.lines.specs.Digits.{digit as digitOf, decimal, hex};
 ghost use Rattle.lines.specs.Lines.{item, wordLine, doneLine, stuckLine, refusedLine, sameLine, differsLine, hexLine};
 ghost use Rattle.lines.specs.Lines.{lineRoom, itemRoom};

@@ -4,9 +4,9 @@ use Prim.Native.Nat.{ℕ, suc, _+_, _-_, _≤_, _<_}
 use native.Mathlib.Numerals.{add-one}
 use native.Mathlib.Nat.{add-assoc, add-zero}
 use native.Mathlib.Omega.{arith}
-use mathlib.Core.Path.{_≡_, ap}
-use mathlib.Core.List.{List, [], _∷_, _++_, append-assoc}
-use lib.ListN.{length, getD, take, drop, set, length-append, length-take, length-drop}
+use mathlib.Core.Path.{_≡_, sym, ap, _∙_}
+use mathlib.Core.List.{List, [], _∷_, _++_, append-assoc, append-nil}
+use lib.ListN.{length, getD, take, drop, set, length-append, length-take, length-drop, take-append-drop}
 use lib.Seq.{drop-cons, getD-drop, drop-drop, drop-append-seam, take-at, drop-at, length-take-le, sets-eq}
 
 -- a byte that stands at a place and what stands after it, and so for two and three
@@ -85,3 +85,27 @@ stored-three s at a b c h =
     let second : at + 1 ≡ suc at = add-one at in
     let third : at + 2 ≡ suc (suc at) = omega arith in
     rw (second, third) (sets-eq (a ∷ b ∷ c ∷ []) s at h)
+
+-- ---- writers
+
+-- a writer of w at a place: it answers the place after w, and the memory has w there and nothing else new
+pub record Writes (w before after : List ℕ) (at next : ℕ) : Type 0 where
+  pub place : next ≡ at + length w
+  pub out : after ≡ written before at w
+
+pub writes-none : (s : List ℕ) (at : ℕ) → Writes [] s s at at
+unfolding written
+writes-none s at =
+    record {
+      place = sym (add-zero at);
+      out = sym (rw (add-zero, append-nil) (take-append-drop at s));
+    }
+
+-- one writer after another
+pub writes-then : {v w s t u : List ℕ} {at mid end : ℕ} → at ≤ length s → Writes v s t at mid → Writes w t u mid end
+    → Writes (v ++ w) s u at end
+writes-then {v} {w} {s} {t} {u} {at} {mid} {end} h a b =
+    record {
+      place = simp length-append (omega (arith, a .place, b .place));
+      out = b .out ∙ rw (a .out, a .place) (written-more s at v w h);
+    }

@@ -12,6 +12,7 @@ use Rattle.number.specs.Numbers.{Bytes}
 use Rattle.number.specs.Refused.{Answer, Outcome}
 use Rattle.number.specs.Refused.Answer.{got, refused}
 use Rattle.number.specs.Refused.Outcome.{gives, refuses}
+use Rattle.number.specs.Lists.{Writes}
 use Rattle.meaning.specs.Re.{Text}
 use Rattle.meaning.specs.Words.{FirstWord}
 use Rattle.book.specs.Book.{Book}
@@ -20,7 +21,6 @@ use Rattle.book.specs.Expression.{meant}
 use Rattle.book.specs.Sample.{wBytes}
 use Rattle.table.specs.Table.{Table}
 use Rattle.table.specs.Sheet.{readSheet, writeSheet}
-use Rattle.table.specs.Promises.{Writes}
 use Rattle.cutting.specs.Steps.{firstBy}
 use Rattle.cutting.specs.Cut.{Cut, Cuts, cutBy}
 use Rattle.cutting.specs.Cut.Ending.{FullAt}

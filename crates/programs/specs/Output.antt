@@ -8,11 +8,11 @@ use lib.ListN.{length, getD, drop}
 use Rattle.number.specs.declared.Refusal.the-variants.{Loaded}
 use Rattle.number.specs.Refused.{Outcome}
 use Rattle.number.specs.Refused.Outcome.{gives, refuses}
+use Rattle.number.specs.Lists.{Writes}
 use Rattle.meaning.specs.Re.{Text}
 use Rattle.book.specs.Calls.{Told, kindOf}
 use Rattle.book.specs.Calls.Told.{kind, none}
 use Rattle.table.specs.Table.{lent, wellFormed}
-use Rattle.table.specs.Promises.{Writes}
 use Rattle.cutting.specs.declared.Word.{Word}
 use Rattle.cutting.specs.Calls.{cutOf}
 use Rattle.cutting.specs.Cut.{Ending, Cut}

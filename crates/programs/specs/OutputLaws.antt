@@ -16,14 +16,13 @@ use Rattle.number.specs.Limits.{rules}
 use Rattle.number.specs.Refused.{Answer, Outcome}
 use Rattle.number.specs.Refused.Answer.{got, refused}
 use Rattle.number.specs.Refused.Outcome.{gives, refuses}
+use Rattle.number.specs.Lists.{Writes, writes-none, writes-then}
 use Rattle.meaning.specs.Re.{Text}
 use Rattle.book.specs.Book.{Book}
 use Rattle.book.specs.Reads.{readBook}
 use Rattle.book.specs.Calls.{kindIn as kindFrom}
 use Rattle.book.specs.ReadLaws.{book-valid}
 use Rattle.table.specs.Table.{lent, wellFormed}
-use Rattle.table.specs.Promises.{Writes}
-use Rattle.table.specs.WritingLaws.{writes-none, writes-then}
 use Rattle.cutting.specs.declared.Word.{Word}
 use Rattle.cutting.specs.declared.Ended.{Ended}
 use Rattle.cutting.specs.Steps.{FirstBy, firstBy}

@@ -11,12 +11,12 @@ use Rattle.number.specs.Limits.{bookFile, textFile, sheetFile, shownText}
 use Rattle.number.specs.Refused.{Answer, Outcome}
 use Rattle.number.specs.Refused.Answer.{got, refused}
 use Rattle.number.specs.Refused.Outcome.{gives, refuses}
+use Rattle.number.specs.Lists.{Writes}
 use Rattle.meaning.specs.Re.{Text}
 use Rattle.book.specs.Book.{Book}
 use Rattle.book.specs.Reads.{readBook}
 use Rattle.table.specs.Table.{Table}
 use Rattle.table.specs.Sheet.{readSheet, writeSheet}
-use Rattle.table.specs.Promises.{Writes}
 use Rattle.cutting.specs.Steps.{firstBy}
 use Rattle.cutting.specs.Cut.{cutBy}
 use Rattle.lines.specs.Lines.{refusedLine, sameLine, differsLine, hexLine, lineRoom}

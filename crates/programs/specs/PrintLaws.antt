@@ -12,7 +12,7 @@ use lib.Seq.{take-at}
 use Rattle.number.specs.declared.Refusal.{Refusal}
 use Rattle.number.specs.declared.Refusal.the-variants.{Input}
 use Rattle.number.specs.Limits.{bytes, states, tableCells, shownText, bookFile, textFile, sheetFile}
-use Rattle.number.specs.Lists.{written}
+use Rattle.number.specs.Lists.{written, Writes, writes-then}
 use Rattle.number.specs.Numbers.{Bytes}
 use Rattle.number.specs.Refused.{Answer, Outcome}
 use Rattle.number.specs.Refused.Answer.{got, refused}
@@ -34,8 +34,7 @@ use Rattle.table.specs.SheetCalls.{write-formed}
 use Rattle.table.specs.SheetBytes.{sheet-length}
 use Rattle.table.specs.SheetLaws.{sheet-back}
 use Rattle.table.specs.Calls.{counted, wrote, Filled, padded, loadRead, loadOf, Output, writeOf}
-use Rattle.table.specs.Promises.{Loads, WritesSheet, Writes}
-use Rattle.table.specs.WritingLaws.{writes-then}
+use Rattle.table.specs.Promises.{Loads, WritesSheet}
 use Rattle.vector.specs.Layout.{workLength}
 use Rattle.building.specs.Calls.{buildBook, filledBy, buildOf}
 use Rattle.building.specs.Fill.{Builds}

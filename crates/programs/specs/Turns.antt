@@ -10,6 +10,7 @@ use lib.ListN.{length, drop, length-append, length-drop}
 use lib.Seq.{drop-drop}
 use Rattle.number.specs.declared.Refusal.the-variants.{Loaded}
 use Rattle.number.specs.Refused.Outcome.{gives, refuses}
+use Rattle.number.specs.Lists.{Writes, writes-then}
 use Rattle.meaning.specs.Re.{Text}
 use Rattle.meaning.specs.Words.{Found}
 use Rattle.meaning.specs.Words.Found.{Word as Found·word}
@@ -21,8 +22,6 @@ use Rattle.cutting.specs.Cut.Ending.{Done, StuckAt, FullAt}
 use Rattle.cutting.specs.Cut.Cuts.{done, stuck, full, word}
 use Rattle.cutting.specs.CutLaws.{first-by, cut-is}
 use Rattle.cutting.specs.TileLaws.{Finished, cut-enough, cut-on}
-use Rattle.table.specs.Promises.{Writes}
-use Rattle.table.specs.WritingLaws.{writes-then}
 use Rattle.lines.specs.Lines.{lineRoom}
 use Rattle.programs.specs.declared.words.Turn.{Turn}
 use Rattle.programs.specs.declared.words.Turn.the-variants.{Onward, Last}

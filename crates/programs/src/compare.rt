@@ -4,7 +4,7 @@ ghost use Prim.Native.Nat.{_≤_};
 ghost use mathlib.Core.Path.{_≡_};
 ghost use lib.ListN.{length};
 ghost use Rattle.number.specs.Limits.{states, tableCells, shownText};
-ghost use Rattle.table.specs.Promises.{Writes};
+ghost use Rattle.number.specs.Lists.{Writes};
 ghost use Rattle.vector.specs.Layout.{workLength};
 ghost use Rattle.programs.specs.Print.{compareFiles, verdictLines, comparePrint, compareRoom, toldLines, Inside};
 use book::Checked;

@@ -3,7 +3,7 @@
 ghost use Prim.Native.Nat.{_+_, _-_, _*_, _^_, _<_, _≤_};
 ghost use lib.ListN.{length};
 ghost use Rattle.number.specs.Limits.{states, tableCells, textFile};
-ghost use Rattle.table.specs.Promises.{Writes};
+ghost use Rattle.number.specs.Lists.{Writes};
 ghost use Rattle.cutting.specs.Flat.{recordCells};
 ghost use Rattle.vector.specs.Layout.{workLength};
 ghost use Rattle.lines.specs.Lines.{lineRoom};

@@ -3,7 +3,7 @@
 ghost use Prim.Native.Nat.{ℕ, _+_, _-_, _*_, _/_, _^_, _<_, _≤_};
 ghost use mathlib.Core.Path.{_≡_};
 ghost use lib.ListN.{length, getD, drop};
-ghost use Rattle.table.specs.Promises.{Writes};
+ghost use Rattle.number.specs.Lists.{Writes};
 ghost use Rattle.cutting.specs.Flat.{recordCells};
 ghost use Rattle.lines.specs.Lines.{lineRoom};
 ghost use Rattle.programs.specs.Output.{kindIn as kindOfRule, Kinds, kindBy, cellLines, turnOf, Turned};

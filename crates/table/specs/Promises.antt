@@ -1,9 +1,9 @@
 -- What the functions of this crate promise: one record a promise, so that a proof reads its parts by name.
 -- The public calls promise what Calls.antt says, for every input; the inner functions promise what they add to lent memory.
-use Prim.Native.Nat.{ℕ, _+_, _-_, _*_, _≤_, _<_}
+use Prim.Native.Nat.{ℕ, _-_, _*_, _≤_, _<_}
 use mathlib.Core.Path.{_≡_}
 use mathlib.Core.List.{List, _∷_}
-use lib.ListN.{length, getD}
+use lib.ListN.{getD}
 use lib.Seq.{slice}
 use Rattle.number.specs.declared.Taken.{Taken}
 use Rattle.number.specs.Limits.{bytes}
@@ -28,11 +28,6 @@ pub record Loads (file l t l′ t′ : List ℕ) (r : Counted) : Type 0 where
 pub record WritesSheet (s : ℕ) (l t o o′ : List ℕ) (r : Written) : Type 0 where
   pub answer : wrote r ≡ writeOf s l t o .answer
   pub out : o′ ≡ writeOf s l t o .out
-
--- a writer of w at a place: it answers the place after w, and the memory has w there and nothing else new
-pub record Writes (w before after : List ℕ) (at next : ℕ) : Type 0 where
-  pub place : next ≡ at + length w
-  pub out : after ≡ written before at w
 
 -- a reader that lays what it got into memory at a place; what a refused one has left there is not told
 abbrev pub Laid : Answer (List ℕ) → List ℕ → ℕ → List ℕ → Type 0

@@ -17,11 +17,10 @@ use Rattle.number.specs.Refused.{Answer}
 use Rattle.number.specs.Refused.Answer.{got, refused}
 use Rattle.number.specs.Numbers.{Bytes, field, taken}
 use Rattle.number.specs.Reading.{Reader, onward, _>>_, answer, refuseIf, mapAnswer}
-use Rattle.number.specs.Lists.{written, written-length, written-more, stored-one}
+use Rattle.number.specs.Lists.{written, written-length, written-more, stored-one, writes-none}
 use Rattle.table.specs.Table.{Table}
 use Rattle.table.specs.Sheet.{Rows, readRuns, readStates, sheet, readSheet}
 use Rattle.table.specs.SheetLaws.{sheet-back}
-use Rattle.table.specs.WritingLaws.{writes-none}
 use Rattle.table.specs.Promises.{LaysRow, LaysRows, LaysTable}
 
 -- ---- one value into a part of memory

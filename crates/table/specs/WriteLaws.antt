@@ -8,11 +8,11 @@ use mathlib.Core.List.{List, _++_}
 use borrow.Author.Tests.{lt-ltb, le-ltb}
 use lib.ListN.{length, drop}
 use Rattle.number.specs.declared.Refusal.the-variants.{Loaded, Room}
-use Rattle.number.specs.Lists.{written}
+use Rattle.number.specs.Lists.{written, Writes}
 use Rattle.table.specs.declared.Written.the-variants.{Bytes, Unwritten}
 use Rattle.table.specs.Table.{lent, wellFormed}
 use Rattle.table.specs.Sheet.{writeSheet}
-use Rattle.table.specs.Promises.{Writes, WritesSheet}
+use Rattle.table.specs.Promises.{WritesSheet}
 
 -- a run of bytes at the front
 written-front : (o w : List ℕ) → written o 0 w ≡ w ++ drop (length w) o

@@ -1,41 +1,21 @@
 -- Laws of writing a table, for the code that works out a sheet's length and then writes it: what each step adds.
--- First writers in general, then runs, rows and states, each with how long it can get.
+-- Runs first, then rows and states, each with how long it can get.
 use Prim.Native.Nat.{ℕ, _+_, _-_, _*_, _≤_, _<_}
 use native.Mathlib.Numerals.{add-one, one-add}
-use native.Mathlib.Nat.{add-zero}
 use native.Mathlib.Omega.{arith}
 use mathlib.Core.Path.{_≡_, sym, ap, _∙_}
-use mathlib.Core.List.{List, [], _∷_, _++_, append-assoc, append-nil}
-use lib.ListN.{length, getD, take, drop, replicate, length-append, length-take, take-append-drop, replicate-append-replicate}
+use mathlib.Core.List.{List, [], _∷_, _++_, append-assoc}
+use lib.ListN.{length, getD, take, drop, replicate, length-append, length-take, replicate-append-replicate}
 use lib.Seq.{slice, slice-cons, slice-empty, length-slice, length-take-le, take-add, take-take, drop-at, drop-drop}
 use Rattle.number.specs.Limits.{version, bytes}
 use Rattle.number.specs.Numbers.{writeNumber}
 use Rattle.number.specs.NumberLaws.{width-most}
-use Rattle.number.specs.Lists.{written, written-more}
+use Rattle.number.specs.Lists.{Writes, writes-none, writes-then}
 use Rattle.table.specs.Table.{lent}
 use Rattle.table.specs.Sheet.{Run, runsOf, writeRuns, writeRow, writeStates, writeSheet}
 use Rattle.table.specs.Formed.{Ends}
 use Rattle.table.specs.SheetRuns.{runs-count, runs-from}
-use Rattle.table.specs.Promises.{Writes, RunAt}
-
--- ---- writers
-
-pub writes-none : (s : List ℕ) (at : ℕ) → Writes [] s s at at
-unfolding written
-writes-none s at =
-    record {
-      place = sym (add-zero at);
-      out = sym (rw (add-zero, append-nil) (take-append-drop at s));
-    }
-
--- one writer after another
-pub writes-then : {v w s t u : List ℕ} {at mid end : ℕ} → at ≤ length s → Writes v s t at mid → Writes w t u mid end
-    → Writes (v ++ w) s u at end
-writes-then {v} {w} {s} {t} {u} {at} {mid} {end} h a b =
-    record {
-      place = simp length-append (omega (arith, a .place, b .place));
-      out = b .out ∙ rw (a .out, a .place) (written-more s at v w h);
-    }
+use Rattle.table.specs.Promises.{RunAt}
 
 -- ---- runs
 

@@ -5,9 +5,10 @@ ghost use Prim.Native.Nat.{_+_, _-_, _*_, _≤_, _<_};
 ghost use lib.ListN.{length};
 ghost use lib.Seq.{slice};
 ghost use Rattle.number.specs.Limits.{states, bytes};
+ghost use Rattle.number.specs.Lists.{Writes};
 ghost use Rattle.table.specs.Table.{lent};
 ghost use Rattle.table.specs.Sheet.{runsOf, writeRuns, writeRow, writeStates, writeSheet};
-ghost use Rattle.table.specs.Promises.{Writes, RunAt};
+ghost use Rattle.table.specs.Promises.{RunAt};
 use number::limits::BYTES;
 use number::limits::VERSION;
 

@@ -9,9 +9,9 @@ use borrow.Author.Tests.{not-true, not-false}
 use lib.ListN.{length, take}
 use Rattle.number.specs.Limits.{version, bytes}
 use Rattle.number.specs.Numbers.{writeNumber}
+use Rattle.number.specs.Lists.{Writes}
 use Rattle.table.specs.Table.{wellFormed}
 use Rattle.table.specs.Sheet.{writeStates}
-use Rattle.table.specs.Promises.{Writes}
 use Rattle.table.specs.TableLaws.{Fitting, well-fits}
 use Rattle.table.specs.WritingLaws.{sheet-is, sheet-written}
 use Rattle.table.specs.WriteLaws.{write-unloaded, write-cramped, write-done}

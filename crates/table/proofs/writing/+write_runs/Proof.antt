@@ -5,7 +5,6 @@ use native.Mathlib.Omega.{arith}
 use borrow.Author.Needs.{needs}
 use lib.ListN.{getD}
 use Rattle.number.specs.Numbers.{writeNumber}
-use Rattle.table.specs.Promises.{Writes}
 use Rattle.table.specs.WritingLaws.{part-some, runs-written-none, runs-written}
 use borrow.Fn.Kinds.{In}
 use borrow.Fn.PlainCycle.{Measures, is, falls, and}
@@ -14,6 +13,7 @@ use Rattle.table.proofs.writing.write_runs.Kinds as write-runs-kinds
 use Rattle.table.proofs.writing.+write_runs.Lts-write_runs as write-runs-lts
 use Rattle.table.proofs.writing.run_end.Reads as run-end-reads
 use Rattle.number.proofs.write_number.Reads as write-number-reads
+use Rattle.number.specs.Lists.{Writes}
 use Rattle.table.proofs.writing.+write_runs.{statement}
 use Rattle.table.proofs.writing.+write_runs.Tie.{close}
 

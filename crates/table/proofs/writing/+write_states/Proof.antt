@@ -9,7 +9,6 @@ use lib.Seq.{slice}
 use Rattle.number.specs.Limits.{bytes}
 use Rattle.number.specs.Numbers.{writeNumber}
 use Rattle.table.specs.Sheet.{writeRow, writeStates}
-use Rattle.table.specs.Promises.{Writes}
 use Rattle.table.specs.WritingLaws.{states-some, states-written-none, states-written}
 use borrow.Fn.Kinds.{In}
 use borrow.Fn.PlainCycle.{Measures, is, falls, and}
@@ -17,6 +16,7 @@ use Rattle.table.proofs.writing.write_states.Reads as write-states
 use Rattle.table.proofs.writing.write_states.Kinds as write-states-kinds
 use Rattle.table.proofs.writing.+write_states.Lts-write_states as write-states-lts
 use Rattle.number.proofs.write_number.Reads as write-number-reads
+use Rattle.number.specs.Lists.{Writes}
 use Rattle.table.proofs.writing.write_row.Reads as write-row-reads
 use Rattle.table.proofs.writing.+write_states.{statement}
 use Rattle.table.proofs.writing.+write_states.Tie.{close}

@@ -7,8 +7,8 @@ use borrow.Author.Needs.{needs}
 use lib.ListN.{length}
 use lib.Seq.{slice}
 use Rattle.number.specs.Numbers.{writeNumber}
+use Rattle.number.specs.Lists.{Writes}
 use Rattle.table.specs.Sheet.{runsOf, writeRuns, writeRow}
-use Rattle.table.specs.Promises.{Writes}
 use Rattle.table.specs.WritingLaws.{row-is, row-written, part-few}
 use Rattle.table.proofs.writing.write_row.Statement.{statement}
 use Rattle.table.proofs.writing.write_row.Tie as tie
