@@ -127,6 +127,9 @@ int main(void)
     /* Numbers of states do not matter to a comparison; what the table says of a text does. */
     count = make_table();
     compare(count);
+    /* Nor does a label at the start to which no text leads back: words are never empty. */
+    labels[0] = 2;
+    compare(count);
     labels[3] = 1;
     compare(count);
     compare(0);

@@ -33,7 +33,7 @@ enum {
     LUBI_RULES = 32,      /* rules of a book */
     LUBI_STATES = 128,    /* states of a table, and cells of its labels */
     LUBI_TARGETS = 32768, /* cells of its targets */
-    LUBI_WORK = 52992,    /* cells of a work area */
+    LUBI_WORK = 53027,    /* cells of a work area */
     LUBI_TEXT = 256       /* bytes of a text area */
 };
 
@@ -109,13 +109,15 @@ size_t lubi_write_sheet(size_t count, const uint8_t *labels, size_t labels_lengt
 size_t lubi_cut_from(size_t count, const uint8_t *labels, size_t labels_length, const uint8_t *targets, size_t targets_length,
     const uint8_t *text, size_t text_length, size_t at, size_t *records, size_t records_length, size_t answer[LUBI_ANSWER]);
 
-/* Compares a rule book with a table on every text there is.
-   answer: LUBI_SAME; or LUBI_DIFFERS, the length of the shortest text on which they differ, the book's label and the table's for it
-   (1 plus a rule's number, or 0). Of the texts of that length it is the lowest. It stands at the front of text_area, and the rest of
-   that area is 0; after LUBI_SAME all of it is 0.
+/* Compares a rule book with a table: whether both cut every text there is into the same words under the same rules.
+   answer: LUBI_SAME; or LUBI_DIFFERS, the length of the shortest text that they cut differently, 1 to LUBI_TEXT, the book's label and
+   the table's for it (1 plus a rule's number, or 0). Of the texts of that length it is the lowest. It stands at the front of text_area,
+   and the rest of that area is 0; after LUBI_SAME all of it is 0. The label of the table's start counts only if some text leads back to
+   the start, since words are never empty.
    Refuses LUBI_ROOM first, where the text area or the work area is below full size, and then changes neither; else LUBI_LOADED, where
    the table is not well formed, then what is wrong in the book, at the byte where it is wrong (1 to 5), then LUBI_LONG, LUBI_PAIRS or
-   LUBI_POOL, at the pair that was being left, and then leaves the text area all 0. */
+   LUBI_POOL, at the number of the pair that was being left (0 for the start, and 1 to 256 in the order found), and then leaves the text
+   area all 0. */
 size_t lubi_compare(const uint8_t *book, size_t book_length, size_t count, const uint8_t *labels, size_t labels_length,
     const uint8_t *targets, size_t targets_length, uint8_t *text_area, size_t text_length, uint64_t *work, size_t work_length,
     size_t answer[LUBI_ANSWER]);

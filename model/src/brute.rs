@@ -1,7 +1,8 @@
 //! The textbook meaning of expressions by sets of texts, with no derivatives and no
-//! tables: all short texts of an expression, and the longest, earliest word by it.
+//! tables: all short texts of an expression, the longest, earliest word by it, and cuts.
 
-use crate::book::{Book, Expr};
+use crate::book::{Book, Expr, Rule};
+use crate::cut::{End, Word};
 use std::collections::BTreeSet;
 
 pub type Texts = BTreeSet<Vec<u8>>;
@@ -98,6 +99,25 @@ impl Meaning {
     }
 }
 
+/// All the words of a text, given how to find the first one, and how the cut ends.
+pub fn words(
+    text: &[u8],
+    first_word: impl Fn(&[u8]) -> Option<(usize, usize)>,
+) -> (Vec<Word>, End) {
+    let mut words = Vec::new();
+    let mut start = 0;
+    while start < text.len() {
+        let Some((length, rule)) = first_word(&text[start..]) else {
+            let count = words.len();
+            return (words, End::Stuck { count, place: start });
+        };
+        words.push(Word { start, length, rule });
+        start += length;
+    }
+    let count = words.len();
+    (words, End::Done { count })
+}
+
 /// Where a text of the expression that begins at `from` can end: the set of ends,
 /// rising. For texts too long to list all the texts of an expression.
 pub fn ends(expr: &Expr, text: &[u8], from: usize) -> BTreeSet<usize> {
@@ -125,6 +145,12 @@ pub fn ends(expr: &Expr, text: &[u8], from: usize) -> BTreeSet<usize> {
             reached
         }
     }
+}
+
+/// 1 plus the earliest rule that has a text of any length, or 0, by the sets of ends.
+pub fn label(book: &Book, text: &[u8]) -> usize {
+    let has = |rule: &Rule| ends(&rule.expr, text, 0).contains(&text.len());
+    book.rules.iter().position(has).map_or(0, |rule| rule + 1)
 }
 
 /// The first word of a text of any length, by the sets of ends.

@@ -7,6 +7,7 @@ use crate::refusal::{refuse, Fault, Refusal};
 use crate::sheet::Table;
 use crate::term::{collect, derivative, normal, Term, TooLong};
 use std::collections::{HashMap, HashSet};
+use std::iter::successors;
 
 /// One term for each rule of the book.
 pub type Vector = Vec<Term>;
@@ -59,6 +60,14 @@ impl Walk {
             return Ok(Next::Held(number));
         }
         Ok(Next::New(vector))
+    }
+
+    /// The number of a vector, which is held from now on.
+    fn settle(&mut self, next: Next, place: usize) -> Result<usize, Refusal> {
+        match next {
+            Next::Held(number) => Ok(number),
+            Next::New(vector) => self.hold(vector, place),
+        }
     }
 
     /// Gives a vector the next number, then counts the terms.
@@ -122,11 +131,10 @@ pub fn build_by(book: &Book, like: &[u8; BYTES], caps: Caps) -> Result<Built, Re
             row[usize::from(byte)] = match () {
                 _ if lowest < byte => row[usize::from(lowest)],
                 _ => match walk.next(state, byte, state)? {
-                    Next::Held(number) => number,
                     Next::New(_) if walk.vectors.len() >= caps.states => {
                         return refuse(Fault::States, state);
                     }
-                    Next::New(vector) => walk.hold(vector, state)?,
+                    next => walk.settle(next, state)?,
                 },
             };
         }
@@ -144,11 +152,69 @@ pub enum Answer {
     Differs { text: Vec<u8>, book: usize, sheet: usize },
 }
 
-/// A pair on the way: sheet state, vector, and the step by which it was found.
+impl Answer {
+    /// The lines that a program prints; where they differ, the text has a line of its own.
+    pub fn lines(&self) -> String {
+        match self {
+            Answer::Same => "same\n".to_string(),
+            Answer::Differs { text, book, sheet } => {
+                let hex: String = text.iter().map(|byte| format!("{byte:02x}")).collect();
+                format!("differs {} {book} {sheet}\n{hex}\n", text.len())
+            }
+        }
+    }
+}
+
+/// A pair on the way: sheet state, vector, and the step by which a non-empty text first
+/// led to it. Only the start can be without one.
 struct Pair {
     state: usize,
     vector: usize,
     found: Option<(usize, u8)>,
+}
+
+/// The pairs by number, the start being 0, and the numbers of those that count: the
+/// ones that a non-empty text leads to, in the order found.
+struct Pairs {
+    held: Vec<Pair>,
+    numbers: HashMap<(usize, usize), usize>,
+    counted: Vec<usize>,
+}
+
+impl Pairs {
+    /// The start, which does not count until a text leads back to it.
+    fn start() -> Pairs {
+        let held = vec![Pair { state: 0, vector: 0, found: None }];
+        Pairs { held, numbers: HashMap::from([((0, 0), 0)]), counted: Vec::new() }
+    }
+
+    fn counts(&self, state: usize, vector: usize) -> bool {
+        let number = self.numbers.get(&(state, vector));
+        number.is_some_and(|&number| self.held[number].found.is_some())
+    }
+
+    /// Counts a pair. The start keeps its number; any other pair gets the next one.
+    fn count(&mut self, state: usize, vector: usize, found: (usize, u8)) {
+        let next = self.held.len();
+        let number = *self.numbers.entry((state, vector)).or_insert(next);
+        if number == next {
+            self.held.push(Pair { state, vector, found: None });
+        }
+        self.held[number].found = Some(found);
+        self.counted.push(number);
+    }
+
+    /// The text that first led to a counted pair: its steps back to where the start is left.
+    fn text(&self, number: usize) -> Vec<u8> {
+        let before = |&(from, _): &(usize, u8)| match from {
+            0 => None,
+            _ => self.held[from].found,
+        };
+        let steps = successors(self.held[number].found, before);
+        let mut text: Vec<u8> = steps.map(|(_, byte)| byte).collect();
+        text.reverse();
+        text
+    }
 }
 
 /// Compares a book with a table that is well formed.
@@ -160,6 +226,7 @@ pub fn compare(book: &Book, table: &Table) -> Result<Answer, Refusal> {
 #[derive(Clone, Debug)]
 pub struct Compared {
     pub answer: Answer,
+    /// Pairs that count.
     pub pairs: usize,
     pub pool: usize,
 }
@@ -172,56 +239,41 @@ pub fn compare_by(
     caps: Caps,
 ) -> Result<Compared, Refusal> {
     let mut walk = Walk::start(book, caps)?;
-    let mut pairs = vec![Pair { state: 0, vector: 0, found: None }];
-    let mut held = HashSet::from([(0, 0)]);
+    let mut pairs = Pairs::start();
     let mut left = 0;
-    while left < pairs.len() {
-        let (state, vector) = (pairs[left].state, pairs[left].vector);
+    while left < pairs.held.len() {
+        let Pair { state, vector, .. } = pairs.held[left];
         let mut derived = [0; BYTES];
         for byte in 0..=255u8 {
-            let (this, lowest) = (usize::from(byte), like[usize::from(byte)]);
+            let lowest = like[usize::from(byte)];
             let target = table.step(state, byte);
-            let mut fresh = None;
-            if lowest < byte {
-                derived[this] = derived[usize::from(lowest)];
-            } else {
-                match walk.next(vector, byte, left)? {
-                    Next::Held(number) => derived[this] = number,
-                    Next::New(vector) => fresh = Some(vector),
+            let next = match () {
+                _ if lowest < byte => Next::Held(derived[usize::from(lowest)]),
+                _ => walk.next(vector, byte, left)?,
+            };
+            derived[usize::from(byte)] = match next {
+                Next::Held(number) if pairs.counts(target, number) => number,
+                _ if pairs.counted.len() >= caps.pairs => return refuse(Fault::Pairs, left),
+                next => {
+                    let number = walk.settle(next, left)?;
+                    pairs.count(target, number, (left, byte));
+                    number
                 }
-            }
-            if fresh.is_none() && held.contains(&(target, derived[this])) {
-                continue;
-            }
-            if pairs.len() >= caps.pairs {
-                return refuse(Fault::Pairs, left);
-            }
-            if let Some(vector) = fresh {
-                derived[this] = walk.hold(vector, left)?;
-            }
-            held.insert((target, derived[this]));
-            pairs.push(Pair { state: target, vector: derived[this], found: Some((left, byte)) });
+            };
         }
         left += 1;
     }
     let answer = answer(&walk, &pairs, table);
-    Ok(Compared { answer, pairs: pairs.len(), pool: walk.pool.len() })
+    Ok(Compared { answer, pairs: pairs.counted.len(), pool: walk.pool.len() })
 }
 
-/// The first pair found whose labels differ decides.
-fn answer(walk: &Walk, pairs: &[Pair], table: &Table) -> Answer {
-    for pair in pairs {
-        let book = label(&walk.vectors[pair.vector]);
-        let sheet = table.labels[pair.state];
+/// The first counted pair whose labels differ decides.
+fn answer(walk: &Walk, pairs: &Pairs, table: &Table) -> Answer {
+    for &number in &pairs.counted {
+        let Pair { state, vector, .. } = pairs.held[number];
+        let (book, sheet) = (label(&walk.vectors[vector]), table.labels[state]);
         if book != sheet {
-            let mut text = Vec::new();
-            let mut step = pair.found;
-            while let Some((from, byte)) = step {
-                text.push(byte);
-                step = pairs[from].found;
-            }
-            text.reverse();
-            return Answer::Differs { text, book, sheet };
+            return Answer::Differs { text: pairs.text(number), book, sheet };
         }
     }
     Answer::Same

@@ -9,7 +9,7 @@ use crate::limits::{BOOK_FILE, SHEET_FILE, TEXT_FILE};
 use crate::prng::Rng;
 use crate::programs;
 use crate::random::{expr, heavy_book, joined_text, nearby_text, plain};
-use crate::random::{scanner_book, small_book, wide_book};
+use crate::random::{looping_book, scanner_book, small_book, wide_book};
 use crate::sheet::{self, Table};
 use crate::sheets;
 use crate::worked::fixed;
@@ -94,11 +94,12 @@ pub fn random_case(rng: &mut Rng) -> Case {
 
 fn random_book(rng: &mut Rng) -> (&'static str, Book) {
     match rng.below(100) {
-        0..=24 => ("small", small_book(rng, 4, 14)),
-        25..=39 => ("middling", small_book(rng, 8, 40)),
-        40..=54 => ("scanner", scanner_book(rng)),
-        55..=74 => ("wide", wide_book(rng)),
-        75..=96 => ("heavy", heavy_book(rng)),
+        0..=14 => ("small", small_book(rng, 4, 14)),
+        15..=41 => ("looping", looping_book(rng)),
+        42..=52 => ("middling", small_book(rng, 8, 40)),
+        53..=63 => ("scanner", scanner_book(rng)),
+        64..=78 => ("wide", wide_book(rng)),
+        79..=96 => ("heavy", heavy_book(rng)),
         _ => ("crowded", crowded_book(rng)),
     }
 }
@@ -193,25 +194,37 @@ fn random_sheet(rng: &mut Rng, book: &Book) -> (String, File) {
 fn related_table(rng: &mut Rng, table: &Table) -> (&'static str, Table) {
     let count = table.count();
     match rng.below(100) {
-        0..=19 => ("own", table.clone()),
-        20..=34 => ("renumbered", sheets::shuffled(rng, table)),
-        35..=44 => {
+        0..=13 => ("own", table.clone()),
+        14..=24 => ("renumbered", sheets::shuffled(rng, table)),
+        25..=32 => {
             let more = rng.within(1, 4);
             let wider = sheets::with_spare(rng, table, more);
             ("wider", sheets::shuffled(rng, &wider))
         }
-        45..=62 => {
+        33..=46 => {
             let (gone, kept) = (rng.below(count), rng.below(count));
             ("merged", sheets::merged(table, gone, kept, rng.chance(70) && gone != kept))
         }
-        63..=82 => ("changed", sheets::changed(rng, table)),
-        83..=86 => {
+        47..=62 => ("changed", sheets::changed(rng, table)),
+        63..=66 => {
             let mut high = table.clone();
             let label = rng.within(1, 33);
             high.labels[rng.below(count)] = label;
             ("relabelled", high)
         }
+        67..=88 => other_start(rng, table),
         _ => other_table(rng),
+    }
+}
+
+/// The table with another label on its start, to which texts lead back as before, or
+/// none does; perhaps changed elsewhere too.
+fn other_start(rng: &mut Rng, table: &Table) -> (&'static str, Table) {
+    let table = if rng.chance(70) { table.clone() } else { sheets::changed(rng, table) };
+    let label = if rng.chance(50) { 0 } else { rng.within(1, 32) };
+    match rng.chance(70) {
+        true => ("start relabelled", sheets::relabelled(&table, b"", label)),
+        false => ("start apart", sheets::apart(&table, label)),
     }
 }
 

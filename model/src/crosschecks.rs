@@ -1,11 +1,12 @@
-//! The model's test of itself, second part: random books whose tables, cuts and
-//! comparisons are held against the sets of texts, and laws that hold for all books.
+//! The model's test of itself, second part: random books whose tables and cuts are held
+//! against the sets of texts, and laws that hold for all books.
 
 use crate::book::{alt, cat, one, star, Book, Expr};
 use crate::brute::{self, all_texts, Meaning};
-use crate::build::{alike, build, build_by, compare, compare_by, Answer};
-use crate::cut::{cut, cut_on, first_word, first_word_in, hopeful, End, Word};
-use crate::limits::{BYTES, CAPS};
+use crate::build::{alike, build, build_by, compare, compare_by, Answer, Built};
+use crate::comparisons;
+use crate::cut::{cut, cut_on, first_word, first_word_in, hopeful, End};
+use crate::limits::{Caps, BYTES, CAPS};
 use crate::prng::Rng;
 use crate::random::{heavy_book, joined_text, nearby_text, small_book, wide_book};
 use crate::refusal::{Fault, Refusal};
@@ -25,26 +26,13 @@ pub fn run(checks: &mut Checks) {
         };
         labels(checks, &mut rng, &book, &table);
         cuts(checks, &mut rng, &book, &table);
-        comparisons(checks, &mut rng, &book, &table);
+        comparisons::answers(checks, &mut rng, &book, &table);
     }
     for seed in 0..400 {
         let mut rng = Rng::part(4, seed);
         let book = if seed % 2 == 0 { heavy_book(&mut rng) } else { wide_book(&mut rng) };
         walks(checks, &mut rng, &book, seed % 10 == 0);
     }
-}
-
-/// The lowest byte of every row of bytes that neither the book nor the table tells apart.
-fn lowest_bytes(book: &Book, table: &Table) -> Vec<u8> {
-    let like = alike(book);
-    let mut apart: Vec<bool> = (0..BYTES).map(|b| b == 0 || like[b] != like[b - 1]).collect();
-    for state in 0..table.count() {
-        let row = table.row(state);
-        for byte in 1..BYTES {
-            apart[byte] |= row[byte] != row[byte - 1];
-        }
-    }
-    (0..=255).filter(|&byte| apart[usize::from(byte)]).collect()
 }
 
 /// A few bytes for a book's texts, no two of them alike.
@@ -137,20 +125,6 @@ fn labels(checks: &mut Checks, rng: &mut Rng, book: &Book, table: &Table) {
     checks.check(&format!("first words of {book:?}"), words_right);
 }
 
-/// All the words of a text by the sets of ends, and the place of getting stuck.
-fn words_again(book: &Book, text: &[u8]) -> (Vec<Word>, Option<usize>) {
-    let mut words = Vec::new();
-    let mut start = 0;
-    while start < text.len() {
-        let Some((length, rule)) = brute::first_word(book, &text[start..]) else {
-            return (words, Some(start));
-        };
-        words.push(Word { start, length, rule });
-        start += length;
-    }
-    (words, None)
-}
-
 /// Cuts are those of the sets, whatever the room, and tile the text.
 fn cuts(checks: &mut Checks, rng: &mut Rng, book: &Book, table: &Table) {
     let length = rng.within(0, 24);
@@ -158,11 +132,11 @@ fn cuts(checks: &mut Checks, rng: &mut Rng, book: &Book, table: &Table) {
         true => joined_text(rng, book, length),
         false => nearby_text(rng, book, length),
     };
-    let (words, stuck) = words_again(book, &text);
+    let (words, end) = brute::words(&text, |rest| brute::first_word(book, rest));
     let count = words.len();
-    let end = match stuck {
-        Some(place) => End::Stuck { count, place },
-        None => End::Done { count },
+    let reached = match end {
+        End::Stuck { place, .. } => place,
+        _ => text.len(),
     };
     let mut place = 0;
     let mut tiled = true;
@@ -170,7 +144,7 @@ fn cuts(checks: &mut Checks, rng: &mut Rng, book: &Book, table: &Table) {
         tiled &= word.start == place && word.length > 0;
         place += word.length;
     }
-    checks.check("words tile the text", tiled && place == stuck.unwrap_or(text.len()));
+    checks.check("words tile the text", tiled && place == reached);
     for room in 0..count + 2 {
         let expect = match words.get(room) {
             Some(next) => (words[..room].to_vec(), End::Full { count: room, place: next.start }),
@@ -183,95 +157,56 @@ fn cuts(checks: &mut Checks, rng: &mut Rng, book: &Book, table: &Table) {
     }
 }
 
-/// Answers of comparisons are those of the sets.
-fn comparisons(checks: &mut Checks, rng: &mut Rng, book: &Book, table: &Table) {
-    let same = Ok(Answer::Same);
-    checks.check("own table is the same", compare(book, table) == same);
-    checks.check("renumbered is the same", compare(book, &sheets::shuffled(rng, table)) == same);
-    let wider = sheets::with_spare(rng, table, 2);
-    checks.check("spare states change nothing", compare(book, &wider) == same);
-    let count = table.count();
-    let (gone, kept) = (rng.below(count), rng.below(count));
-    let small = rng.within(1, 4);
-    let others = [
-        sheets::changed(rng, table),
-        sheets::merged(table, gone, kept, gone != kept),
-        sheets::random(rng, small),
-        sheets::counter(b'a', 3, 1),
-    ];
-    for other in others {
-        let bytes = lowest_bytes(book, &other);
-        let most = match bytes.len() {
-            0..=4 => 5,
-            5..=7 => 3,
-            8..=30 => 2,
-            _ => 1,
-        };
-        let meaning = Meaning::of(book, &bytes, most);
-        let least = all_texts(&bytes, most).into_iter().find(|text| {
-            let (book, sheet) = (meaning.label(text), other.label(text));
-            book != sheet
-        });
-        let right = match (compare(book, &other), least) {
-            (Ok(Answer::Same), least) => least.is_none(),
-            (Ok(Answer::Differs { text, book: b, sheet: s }), Some(least)) => {
-                text == least && b == meaning.label(&least) && s == other.label(&least)
-            }
-            (Ok(Answer::Differs { text, book: b, sheet: s }), None) => {
-                let ends = |rule: &crate::book::Rule| {
-                    brute::ends(&rule.expr, &text, 0).contains(&text.len())
-                };
-                let found = book.rules.iter().position(ends).map_or(0, |rule| rule + 1);
-                text.len() > most && b == found && s == other.label(&text) && b != s
-            }
-            // D2: the book builds, so only the pairs can run out.
-            (Err(refusal), _) => refusal.fault == Fault::Pairs,
-        };
-        checks.check(&format!("comparison of {book:?}"), right);
-    }
-}
-
 /// Laws of the walk for books near the limits; `slow` derives by every byte.
 fn walks(checks: &mut Checks, rng: &mut Rng, book: &Book, slow: bool) {
     let built = build_by(book, &alike(book), CAPS);
     if slow {
-        let each: [u8; BYTES] = std::array::from_fn(|byte| byte as u8);
-        let plain = build_by(book, &each, CAPS);
-        let kept = |built: &Result<crate::build::Built, Refusal>| {
-            built.clone().map(|built| (built.table, built.pool))
-        };
-        checks.check("alike bytes lead alike", kept(&built) == kept(&plain));
-        let other = sheets::random(rng, 3);
-        let answered =
-            |like| compare_by(book, &other, like, CAPS).map(|found| (found.answer, found.pairs));
-        checks.check("alike bytes compare alike", answered(&alike(book)) == answered(&each));
+        every_byte(checks, rng, book, &built);
+        let caps = Caps { pairs: rng.within(1, 20), pool: rng.within(50, 900), ..CAPS };
+        comparisons::least_texts(checks, book, &sheets::clock(3, 0), caps);
     }
-    let Ok(built) = built else {
-        let lone = Table { labels: vec![0], targets: vec![0; BYTES] };
-        let refused = built.expect_err("it is refused");
-        let compared = compare(book, &lone);
-        let right = match refused.fault {
-            // One state: the pairs are the vectors, and the walk is the same.
-            Fault::Long | Fault::Pool => compared == Err(refused),
-            fault => fault == Fault::States,
-        };
-        checks.check("the walk against one state refuses alike", right);
-        return;
-    };
-    let table = built.table;
+    match built {
+        Ok(built) => big_table(checks, rng, book, &built),
+        Err(refused) => {
+            let compared = compare(book, &sheets::lone(0));
+            let right = match refused.fault {
+                // One state: the pairs are the vectors, and the walk is the same.
+                Fault::Long | Fault::Pool => compared == Err(refused),
+                fault => fault == Fault::States,
+            };
+            checks.check("the walk against one state refuses alike", right);
+        }
+    }
+}
+
+/// Deriving by every byte gives what deriving by the lowest of those alike gives.
+fn every_byte(checks: &mut Checks, rng: &mut Rng, book: &Book, built: &Result<Built, Refusal>) {
+    let each: [u8; BYTES] = std::array::from_fn(|byte| byte as u8);
+    let plain = build_by(book, &each, CAPS);
+    let kept = |built: &Result<Built, Refusal>| built.clone().map(|b| (b.table, b.pool));
+    checks.check("alike bytes lead alike", kept(built) == kept(&plain));
+    let other = sheets::random(rng, 3);
+    let answered =
+        |like| compare_by(book, &other, like, CAPS).map(|found| (found.answer, found.pairs));
+    checks.check("alike bytes compare alike", answered(&alike(book)) == answered(&each));
+}
+
+/// A book near the limits that builds: its size, a comparison and a cut.
+fn big_table(checks: &mut Checks, rng: &mut Rng, book: &Book, built: &Built) {
+    let table = &built.table;
     checks.check("the longest term is short", built.longest <= 255 && built.pool <= 1_024);
-    checks.check("own table is the same", compare(book, &table) == Ok(Answer::Same));
-    let other = sheets::changed(rng, &table);
+    checks.check("own table is the same", compare(book, table) == Ok(Answer::Same));
+    let other = sheets::changed(rng, table);
     match compare(book, &other) {
         Ok(Answer::Same) => {}
         Ok(Answer::Differs { text, book, sheet }) => {
             let right = table.label(&text) == book && other.label(&text) == sheet;
-            checks.check("a text that differs", right && book != sheet);
+            checks.check("a text that differs", right && book != sheet && !text.is_empty());
         }
         Err(refusal) => checks.check("only pairs run out", refusal.fault == Fault::Pairs),
     }
     let text = joined_text(rng, book, 100);
-    let (words, end) = cut(&table, &text, usize::MAX);
+    let (words, end) = cut(table, &text, usize::MAX);
     let place = words.last().map_or(0, |word| word.start + word.length);
     let right = match end {
         End::Done { count } => count == words.len() && place == text.len(),

@@ -1,11 +1,11 @@
-//! Books that just meet or just pass a limit of reading or of the walk, each with a
-//! name; the selftest says what every one of them has to give.
+//! Books and comparisons that just meet or just pass a limit of reading or of the walk,
+//! each with a name and what it has to give.
 
 use crate::book::{alt, cat, choice, literal, one, power, star, Book, Expr};
-use crate::build::{alike, build, build_by};
-use crate::limits::{Caps, BYTES, CAPS};
+use crate::build::{alike, build, build_by, Answer};
+use crate::limits::{Caps, CAPS};
 use crate::sheet::Table;
-use crate::sheets::{chain, clock, counter};
+use crate::sheets::{chain, clock, counter, lone};
 
 /// a, so many times in a row.
 pub fn row_of_a(times: usize) -> Expr {
@@ -215,46 +215,43 @@ pub struct Meeting {
     pub expect: String,
 }
 
-/// Comparisons that meet or pass a limit, or whose text is long or empty.
+pub fn meet(name: &'static str, book: Book, table: Table, expect: impl Into<String>) -> Meeting {
+    Meeting { name, book, table, expect: expect.into() }
+}
+
+/// What `compare` prints where the labels of a text differ.
+pub fn differs(text: &[u8], book: usize, sheet: usize) -> String {
+    Answer::Differs { text: text.to_vec(), book, sheet }.lines()
+}
+
+/// A book of one rule.
+pub fn rule(expr: Expr) -> Book {
+    Book::of(vec![expr])
+}
+
+/// Comparisons that meet or pass a limit, or whose text is long.
 pub fn meetings() -> Vec<Meeting> {
     let a = row_of_a;
-    let meet = |name, exprs, table, expect: &str| Meeting {
-        name,
-        book: Book::of(exprs),
-        table,
-        expect: expect.to_string(),
-    };
-    let differs = |byte: &str, length: usize, book: usize, sheet: usize| {
-        format!("differs {length} {book} {sheet}\n{}\n", byte.repeat(length))
-    };
+    let fifteen = || rule(star(a(15)));
     let any = || Expr::Range(0, 255);
-    let lone = |label: usize| Table { labels: vec![label], targets: vec![0; BYTES] };
-    let chained = build(&Book::of(vec![a(126)])).expect("a^126 builds");
-    let crossing = crossing_book(8, 6, 1, 1);
-    let pool = pool_book(26, &[8, 9]);
+    let endless = Book::of(vec![star(any()), a(127)]);
+    let chained = build(&rule(a(126))).expect("a^126 builds");
+    let (round, longer) = (star(power(&any(), 63)), differs(&[0; 189], 1, 0));
+    let late = || rule(cat(one(b'x'), star(a(65))));
+    let (crossing, pool) = (crossing_book(8, 6, 1, 1), pool_book(26, &[8, 9]));
     vec![
-        meet("256 pairs", vec![star(a(15))], counter(b'a', 17, 1), &differs("61", 15, 1, 0)),
-        meet("257 pairs", vec![star(a(15))], counter(b'a', 17, 2), "refused 12 255\n"),
-        meet("15 against 15", vec![star(a(15))], counter(b'a', 15, 2), "same\n"),
-        meet("a^127 by a^126", vec![a(127)], chained, &differs("61", 126, 0, 1)),
-        meet("any, a^127 by one state", vec![star(any()), a(127)], lone(1), "same\n"),
-        meet("189 bytes", vec![star(power(&any(), 63))], chain(128, 63), &differs("00", 189, 1, 0)),
-        meet("empty text", vec![Expr::Empty], lone(0), "differs 0 1 0\n\n"),
-        meet("label above n", vec![Expr::Nothing], lone(32), "differs 0 0 32\n\n"),
-        meet("Long at vector 0", vec![a(129)], lone(0), "refused 6 0\n"),
-        meet("Long at pair 2", vec![cat(one(b'x'), star(a(65)))], lone(0), "refused 6 2\n"),
-        meet(
-            "Long at pair 5",
-            vec![cat(one(b'x'), star(a(65)))],
-            counter(b'x', 3, 4),
-            "refused 6 5\n",
-        ),
-        Meeting { name: "Pool", book: pool, table: lone(0), expect: "refused 7 26\n".into() },
-        Meeting {
-            name: "Pairs and Pool at one step",
-            book: crossing,
-            table: clock(8, 66),
-            expect: "refused 12 163\n".into(),
-        },
+        meet("256 pairs", fifteen(), counter(b'a', 17, 1), differs(&[b'a'; 15], 1, 0)),
+        meet("257 pairs", fifteen(), counter(b'a', 17, 2), "refused 12 256\n"),
+        meet("15 against 15", fifteen(), counter(b'a', 15, 2), "same\n"),
+        meet("a^127 by a^126", rule(a(127)), chained, differs(&[b'a'; 126], 0, 1)),
+        meet("any, a^127 by one state", endless, lone(1), "same\n"),
+        meet("189 bytes", rule(round), chain(128, 63), longer),
+        meet("empty text", rule(Expr::Empty), lone(0), "same\n"),
+        meet("label above n", rule(Expr::Nothing), lone(32), differs(&[0], 0, 32)),
+        meet("Long at vector 0", rule(a(129)), lone(0), "refused 6 0\n"),
+        meet("Long at pair 2", late(), lone(0), "refused 6 2\n"),
+        meet("Long at pair 5", late(), counter(b'x', 3, 4), "refused 6 5\n"),
+        meet("Pool", pool, lone(0), "refused 7 26\n"),
+        meet("Pool, one pair before Pairs", crossing, clock(8, 66), "refused 7 163\n"),
     ]
 }

@@ -17,7 +17,7 @@ pub const TERM: usize = 255;
 pub const STATES: usize = 128;
 /// Greatest number of distinct terms in the held vectors and their parts.
 pub const POOL: usize = 1_024;
-/// Greatest number of pairs that a comparison holds.
+/// Greatest number of pairs that a comparison counts: those that a non-empty text leads to.
 pub const PAIRS: usize = 256;
 /// The three caps on what a walk holds, in one value so that the selftest can try others.
 #[derive(Clone, Copy, Debug)]

@@ -5,6 +5,7 @@ mod book;
 mod brute;
 mod build;
 mod cases;
+mod comparisons;
 mod crosschecks;
 mod cut;
 mod damage;
@@ -19,7 +20,9 @@ mod refusal;
 mod selftest;
 mod sheet;
 mod sheets;
+mod starts;
 mod stored;
+mod telling;
 mod term;
 mod worked;
 

@@ -2,7 +2,7 @@
 //! not be read is None.
 
 use crate::book::{self, Book};
-use crate::build::{build, compare, Answer};
+use crate::build::{build, compare};
 use crate::cut::{cut_on, End};
 use crate::limits::{BOOK_FILE, SHEET_FILE, TEXT_FILE};
 use crate::refusal::{refuse, Fault, Refusal};
@@ -57,13 +57,7 @@ fn try_comparison(book: Option<&[u8]>, sheet: Option<&[u8]>) -> Result<String, R
     let sheet = input(sheet, SHEET_FILE)?;
     let book = book::read(book)?;
     let table = sheet::read(sheet)?;
-    Ok(match compare(&book, &table)? {
-        Answer::Same => "same\n".to_string(),
-        Answer::Differs { text, book, sheet } => {
-            let hex: String = text.iter().map(|byte| format!("{byte:02x}")).collect();
-            format!("differs {} {book} {sheet}\n{hex}\n", text.len())
-        }
-    })
+    Ok(compare(&book, &table)?.lines())
 }
 
 /// The sheet that `sheet` writes, or the refusal that it prints.

@@ -1,5 +1,6 @@
-//! Random expressions, books and texts: small ones with few bytes, wide ones, ones
-//! that look like a scanner's, heavy ones that come near the limits of a build.
+//! Random expressions, books and texts: small ones with few bytes, ones that lead back
+//! to their start, wide ones, ones that look like a scanner's, heavy ones that come near
+//! the limits of a build.
 
 use crate::book::{alt, cat, choice, literal, one, power, star, Book, Expr, Rule};
 use crate::prng::Rng;
@@ -94,6 +95,25 @@ pub fn small_book(rng: &mut Rng, rules: usize, budget: usize) -> Book {
     with_kinds(rng, exprs)
 }
 
+/// A book of rules that match the empty text or that a letter leaves as they are, so
+/// that more often than not some text leads back to the start.
+pub fn looping_book(rng: &mut Rng) -> Book {
+    let letters = alphabet(rng);
+    let again = one(*rng.pick(&letters));
+    let mut exprs = Vec::new();
+    for _ in 0..*rng.pick(&[1, 1, 1, 1, 2, 3]) {
+        let nodes = rng.within(1, 9);
+        let inner = expr(rng, &letters, nodes);
+        exprs.push(match rng.below(7) {
+            0 | 1 => star(alt(again.clone(), inner)),
+            2 | 3 => star(cat(inner, again.clone())),
+            4 | 5 => cat(star(again.clone()), inner),
+            _ => alt(inner, Expr::Empty),
+        });
+    }
+    with_kinds(rng, exprs)
+}
+
 /// A book of up to 32 rules over all sorts of bytes.
 pub fn wide_book(rng: &mut Rng) -> Book {
     let count = rng.within(5, 32);
@@ -175,23 +195,23 @@ pub fn heavy_book(rng: &mut Rng) -> Book {
             let front = power(&one(b'x'), rng.within(0, 4));
             exprs.push(cat(front, star(inner)));
         }
-        _ => {
-            for _ in 0..rng.within(1, 6) {
-                let words = rng.within(1, 12);
-                let mut parts = Vec::new();
-                for _ in 0..words {
-                    let length = rng.within(1, 6);
-                    let text: Vec<u8> = (0..length).map(|_| *rng.pick(b"abcde")).collect();
-                    parts.push(literal(&text));
-                }
-                exprs.push(choice(parts));
-            }
-        }
+        _ => exprs.extend((0..rng.within(1, 6)).map(|_| word_list(rng))),
     }
     if rng.chance(30) {
         exprs.push(star(Expr::Range(0, 255)));
     }
     with_kinds(rng, exprs)
+}
+
+/// A choice of a few short words.
+fn word_list(rng: &mut Rng) -> Expr {
+    let mut parts = Vec::new();
+    for _ in 0..rng.within(1, 12) {
+        let length = rng.within(1, 6);
+        let text: Vec<u8> = (0..length).map(|_| *rng.pick(b"abcde")).collect();
+        parts.push(literal(&text));
+    }
+    choice(parts)
 }
 
 /// Some text of the expression, if it has one that is easily found.

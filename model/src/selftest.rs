@@ -1,13 +1,14 @@
 //! The model's test of itself, first part: numbers, files, the sample book with its
-//! worked lines, and the limits; the second part is in `crosschecks`.
+//! worked lines, and the limits; then come `crosschecks` and `comparisons`.
 
 use crate::book;
 use crate::brute;
 use crate::build::{alike, build_by, compare_by};
+use crate::comparisons;
 use crate::crosschecks;
 use crate::cut::{cut, first_word, End, Word};
 use crate::damage::damage;
-use crate::edges::{all, crossing_book, meetings, Edge};
+use crate::edges::{all, crossing_book, meetings, Edge, Meeting};
 use crate::faults;
 use crate::limits::{Caps, CAPS};
 use crate::number::{self, Reader};
@@ -17,6 +18,7 @@ use crate::random::{heavy_book, scanner_book, small_book, wide_book};
 use crate::refusal::{Fault, Refusal};
 use crate::sheet;
 use crate::sheets;
+use crate::starts::starts;
 use crate::worked::{sample_book, sample_table, OUTPUT, SAMPLE, TEXT};
 
 /// Counts checks and names those that fail.
@@ -49,6 +51,7 @@ pub fn run() -> bool {
     sample(&mut checks);
     limits(&mut checks);
     crosschecks::run(&mut checks);
+    comparisons::run(&mut checks);
     println!("{} passed, {} failed", checks.passed, checks.failed);
     checks.failed == 0
 }
@@ -161,8 +164,7 @@ fn sheets_read(checks: &mut Checks) {
         checks.check("a spoilt table is refused", lent(&cells) == Err(loaded));
         let bytes = sheet::write(&table);
         checks.check("a sheet read again", sheet::read(&bytes) == Ok(table));
-        let length = rng.below(bytes.len());
-        let early = sheet::read(&bytes[..length]).expect_err("it is too short");
+        let early = sheet::read(&bytes[..rng.below(bytes.len())]).expect_err("it is too short");
         checks.check("an early end is Short", early.fault == Fault::Short);
         for _ in 0..40 {
             let mut spoilt = bytes.clone();
@@ -201,9 +203,7 @@ fn sample(checks: &mut Checks) {
         [(b"to", 1), (b"tom", 2), (b"t", 2), (b"7", 3), (b" ", 4), (b"", 0), (b"t7", 0)];
     for (text, label) in lines {
         checks.check("P1 to P7", table.label(text) == label);
-        let ends = |rule: &book::Rule| brute::ends(&rule.expr, text, 0).contains(&text.len());
-        let found = book.rules.iter().position(ends).map_or(0, |rule| rule + 1);
-        checks.check("P1 to P7 by sets", found == label);
+        checks.check("P1 to P7 by sets", brute::label(&book, text) == label);
     }
     let words: [(&[u8], Option<(usize, usize)>); 3] =
         [(b"t7", Some((1, 1))), (b"tom 7", Some((3, 1))), (b"#", None)];
@@ -240,14 +240,20 @@ fn outcome(edge: &Edge) -> String {
     }
 }
 
+/// Comparisons at a limit, and those that turn on the start.
+fn all_meetings() -> impl Iterator<Item = Meeting> {
+    meetings().into_iter().chain(starts())
+}
+
 fn limits(checks: &mut Checks) {
     for edge in all() {
         checks.check(edge.name, outcome(&edge) == edge.expect);
     }
-    for meeting in meetings() {
+    for meeting in all_meetings() {
         let sheet = sheet::write(&meeting.table);
         let output = programs::comparison(Some(&meeting.book.write()), Some(&sheet));
         checks.check(meeting.name, output == meeting.expect.as_bytes());
+        comparisons::least_texts(checks, &meeting.book, &meeting.table, CAPS);
     }
     // With room for one more vector or pair, the same step refuses Pool.
     for (rules, back, round, length) in [(10, 6, 2, 1), (12, 6, 3, 2), (13, 6, 4, 1)] {
@@ -262,8 +268,8 @@ fn limits(checks: &mut Checks) {
     }
     let book = crossing_book(8, 6, 1, 1);
     let caps = Caps { pairs: 257, ..CAPS };
-    let refused = compare_by(&book, &sheets::clock(8, 66), &alike(&book), caps).err();
-    let pool = Refusal { fault: Fault::Pool, place: 163 };
+    let refused = compare_by(&book, &sheets::clock(8, 67), &alike(&book), caps).err();
+    let pool = Refusal { fault: Fault::Pool, place: 164 };
     checks.check("Pairs before Pool", refused == Some(pool));
 }
 
@@ -278,7 +284,7 @@ pub fn print_limits() {
             outcome(&edge)
         );
     }
-    for meeting in meetings() {
+    for meeting in all_meetings() {
         let compared = compare_by(&meeting.book, &meeting.table, &alike(&meeting.book), CAPS);
         match compared {
             Ok(found) => println!("{}: {} pairs, {} terms", meeting.name, found.pairs, found.pool),

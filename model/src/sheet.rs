@@ -23,9 +23,14 @@ impl Table {
         self.targets[BYTES * state + usize::from(byte)]
     }
 
+    /// The state that a text leads to.
+    pub fn after(&self, text: &[u8]) -> usize {
+        text.iter().fold(0, |state, &byte| self.step(state, byte))
+    }
+
     /// The label of the state that a text leads to.
     pub fn label(&self, text: &[u8]) -> usize {
-        self.labels[text.iter().fold(0, |state, &byte| self.step(state, byte))]
+        self.labels[self.after(text)]
     }
 
     /// The targets of one state.

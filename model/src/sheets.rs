@@ -1,5 +1,5 @@
 //! Tables made for comparing: other numberings, spare states, merged states, other
-//! labels and targets, counters, random tables, and sheets of a given length.
+//! labels and targets, other starts, counters, random tables, and sheets of a given length.
 
 use crate::limits::{BYTES, STATES};
 use crate::prng::Rng;
@@ -60,6 +60,22 @@ pub fn merged(table: &Table, gone: usize, kept: usize, take_out: bool) -> Table 
     new
 }
 
+/// The table with another label on the state that a text leads to.
+pub fn relabelled(table: &Table, text: &[u8], label: usize) -> Table {
+    let mut new = table.clone();
+    new.labels[table.after(text)] = label;
+    new
+}
+
+/// The table with a start of its own, to which nothing leads back; the old start stays
+/// as the last state. All that a cut can show is as before, whatever the label.
+pub fn apart(table: &Table, label: usize) -> Table {
+    let mut wider = table.clone();
+    wider.labels.push(table.labels[0]);
+    wider.targets.extend(table.row(0));
+    relabelled(&merged(&wider, 0, table.count(), false), b"", label)
+}
+
 /// A change to one label or to one or a few targets.
 pub fn changed(rng: &mut Rng, table: &Table) -> Table {
     let mut new = table.clone();
@@ -92,32 +108,35 @@ pub fn random(rng: &mut Rng, count: usize) -> Table {
     table
 }
 
+/// A table of one state.
+pub fn lone(label: usize) -> Table {
+    Table { labels: vec![label], targets: vec![0; BYTES] }
+}
+
+/// A table without labels, from the target of each state and byte.
+fn unlabelled(count: usize, target: impl Fn(usize, usize) -> usize) -> Table {
+    let cells = 0..BYTES * count;
+    let targets = cells.map(|cell| target(cell / BYTES, cell % BYTES)).collect();
+    Table { labels: vec![0; count], targets }
+}
+
 /// A table that counts one byte modulo `round` (label 1 at 0) and sends every other
 /// byte to one of `dead` dead states, byte by byte in turn.
 pub fn counter(byte: u8, round: usize, dead: usize) -> Table {
-    let mut table = Table { labels: vec![0; round + dead], targets: Vec::new() };
-    table.labels[0] = 1;
-    for state in 0..round + dead {
-        for other in 0..BYTES {
-            table.targets.push(match () {
-                _ if state >= round => state,
-                _ if other == usize::from(byte) => (state + 1) % round,
-                _ => round + other % dead,
-            });
-        }
-    }
-    table
+    let target = |state: usize, other: usize| match () {
+        _ if state >= round => state,
+        _ if other == usize::from(byte) => (state + 1) % round,
+        _ => round + other % dead,
+    };
+    relabelled(&unlabelled(round + dead, target), b"", 1)
 }
 
 /// A chain of states along any bytes whose last state keeps to itself; the label is
 /// 1 at the multiples of `round`, but 0 on the last state.
 pub fn chain(count: usize, round: usize) -> Table {
     let label = |state| usize::from(state % round == 0 && state + 1 < count);
-    let target = |state: usize| (state + 1).min(count - 1);
-    Table {
-        labels: (0..count).map(label).collect(),
-        targets: (0..count).flat_map(|state| vec![target(state); BYTES]).collect(),
-    }
+    let table = unlabelled(count, |state, _| (state + 1).min(count - 1));
+    Table { labels: (0..count).map(label).collect(), ..table }
 }
 
 /// 128 states in which neighbouring bytes always have different targets, but that
@@ -136,14 +155,30 @@ pub fn crowded(runs: usize, first: usize) -> Table {
     table
 }
 
-/// A table without labels that counts bytes modulo `round`, but from the start the
-/// last `spread` bytes lead to as many states of their own.
-pub fn clock(round: usize, spread: usize) -> Table {
-    let target = |state: usize, byte: usize| match () {
-        _ if state >= round => state,
-        _ if state == 0 && byte >= BYTES - spread => round + byte - (BYTES - spread),
-        _ => (state + 1) % round,
-    };
-    let row = |state: usize| (0..BYTES).map(move |byte| target(state, byte));
-    Table { labels: vec![0; round + spread], targets: (0..round + spread).flat_map(row).collect() }
+/// A table without labels that counts bytes modulo `round`, spread at its start.
+pub fn clock(round: usize, more: usize) -> Table {
+    spread(&unlabelled(round, |state, _| (state + 1) % round), more)
+}
+
+/// The table whose start leads by the last `more` bytes to as many states of their own,
+/// which have no label and keep to themselves.
+pub fn spread(table: &Table, more: usize) -> Table {
+    let mut new = table.clone();
+    for byte in BYTES - more..BYTES {
+        let own = new.count();
+        new.labels.push(0);
+        new.targets.extend([own; BYTES]);
+        new.targets[byte] = own;
+    }
+    new
+}
+
+/// A table without labels whose start leads to all other states, byte by byte in turn.
+/// The first `rungs` of them lead down one by one to the lowest, the `more` others at once.
+pub fn funnel(rungs: usize, more: usize) -> Table {
+    unlabelled(1 + rungs + more, |state, byte| match state {
+        0 => 1 + byte % (rungs + more),
+        _ if state <= rungs => (state - 1).max(1),
+        _ => 1,
+    })
 }

@@ -2,7 +2,7 @@
 //! sheets, what the program has to print for them, and tables that describe them.
 
 use crate::book;
-use crate::build::{build, compare, Answer};
+use crate::build::{build, compare};
 use crate::cases::{random_case, Case};
 use crate::cut::{cut, End, Word};
 use crate::damage::damage;
@@ -13,7 +13,7 @@ use crate::sheet::{self, Table};
 use crate::sheets::{shuffled, with_spare};
 use crate::worked::{
     book_fault_cases, case, limit_cases, meeting_cases, sample_cases, sample_table,
-    sheet_fault_cases, state_count_cases, SAMPLE, TEXT,
+    sheet_fault_cases, start_cases, state_count_cases, SAMPLE, TEXT,
 };
 use std::collections::BTreeMap;
 use std::fs;
@@ -58,6 +58,7 @@ fn groups() -> Vec<Group> {
         group("random books, damaged", false, damaged_books(rng)),
         group("sheets of random books, damaged", false, damaged_sheets(rng)),
         group("random books, texts and sheets", false, random_cases()),
+        group("comparisons over non-empty texts", true, start_cases(rng)),
     ]
 }
 
@@ -201,18 +202,13 @@ fn words(table: &Table, text: &[u8]) -> (String, String) {
     (words.iter().map(line).collect(), end)
 }
 
-/// The comparison by the library: the sheet is loaded before the book is read. Where
-/// they differ, the shown text has a line of its own.
+/// The comparison by the library: the sheet is loaded before the book is read. The
+/// first line is told apart from that of the shown text.
 fn compared(book: &[u8], sheet: &[u8]) -> (String, String) {
     let answer = sheet::read(sheet).and_then(|table| compare(&book::read(book)?, &table));
-    match answer {
-        Err(refusal) => (refusal.line(), String::new()),
-        Ok(Answer::Same) => ("same\n".to_string(), String::new()),
-        Ok(Answer::Differs { text, book, sheet }) => {
-            let hex: String = text.iter().map(|byte| format!("{byte:02x}")).collect();
-            (format!("differs {} {book} {sheet}\n", text.len()), format!("{hex}\n"))
-        }
-    }
+    let lines = answer.map_or_else(|refusal| refusal.line(), |answer| answer.lines());
+    let (first, shown) = lines.split_once('\n').expect("a line ends");
+    (format!("{first}\n"), shown.to_string())
 }
 
 /// Writes the files of a case; an empty file is left out, and a text that is not cut.

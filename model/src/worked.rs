@@ -1,16 +1,17 @@
 //! The sample book of the specification and the other fixed cases that every set of
-//! cases begins with: file sizes, odd files, and the books and meetings at the limits.
+//! cases begins with: file sizes, odd files, books and meetings at the limits or of starts.
 
 use crate::book::{self, one, Book};
 use crate::build::build;
 use crate::cases::{Case, File};
-use crate::edges::{all, meetings};
+use crate::edges::{all, meetings, Meeting};
 use crate::faults;
 use crate::limits::{BOOK_FILE, TEXT_FILE};
 use crate::prng::Rng;
 use crate::random::joined_text;
 use crate::sheet::{self, Table};
 use crate::sheets::{crowded, merged, random};
+use crate::starts::starts;
 
 /// The sample book, byte for byte.
 pub const SAMPLE: [u8; 36] = [
@@ -53,6 +54,7 @@ pub fn fixed(rng: &mut Rng) -> Vec<Case> {
         sheet_fault_cases(),
         state_count_cases(),
         sheet_length_cases(),
+        start_cases(rng),
     ]
     .concat()
 }
@@ -70,13 +72,17 @@ pub fn limit_cases(rng: &mut Rng) -> Vec<Case> {
 
 /// Comparisons that just meet or pass a limit.
 pub fn meeting_cases(rng: &mut Rng) -> Vec<Case> {
-    let mut cases = Vec::new();
-    for meeting in meetings() {
-        let text = joined_text(rng, &meeting.book, 400);
-        let sheet = sheet::write(&meeting.table);
-        cases.push(case(meeting.name, &meeting.book.write(), &text, &sheet));
-    }
-    cases
+    meetings().iter().map(|meeting| met(rng, meeting)).collect()
+}
+
+/// Comparisons that turn on the start.
+pub fn start_cases(rng: &mut Rng) -> Vec<Case> {
+    starts().iter().map(|meeting| met(rng, meeting)).collect()
+}
+
+fn met(rng: &mut Rng, meeting: &Meeting) -> Case {
+    let text = joined_text(rng, &meeting.book, 400);
+    case(meeting.name, &meeting.book.write(), &text, &sheet::write(&meeting.table))
 }
 
 /// The books written by hand.

@@ -16,7 +16,7 @@ use Rattle.walk.specs.Walk.Walked.{halted, walked}
 
 -- beside one state that leads to itself
 abbrev pub alone : Way
-alone = record { go = λ q c. 0; limit = states; full = States }
+alone = record { go = λ q c. 0; limit = states; full = States; told = λ xs i. i }
 
 abbrev pub tableOf : Held → List ℕ → Table
 tableOf h targets = record { count = length (h .items); labels = map (λ x. label (x .vector)) (h .items); targets = targets }

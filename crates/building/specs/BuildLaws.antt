@@ -68,12 +68,12 @@ build-names rs t e w b = rw (built-label rs t e w b) (names-after rs w)
 
 -- ---- cutting
 
-bytes-take : (m : ℕ) (w : Text) → Bytes w → Bytes (take m w)
+pub bytes-take : (m : ℕ) (w : Text) → Bytes w → Bytes (take m w)
 bytes-take m w b i l =
     let n = length-take m w in
     rw (getD-take m w i 0 (omega arith)) (b i (omega arith))
 
-bytes-drop : (n : ℕ) (w : Text) → Bytes w → Bytes (drop n w)
+pub bytes-drop : (n : ℕ) (w : Text) → Bytes w → Bytes (drop n w)
 bytes-drop n w b i l =
     let m = length-drop n w in
     rw (getD-drop n w i 0) (b (n + i) (omega arith))
@@ -81,7 +81,7 @@ bytes-drop n w b i l =
 module _ (rs : List Re) (t : Table) (e : buildRules rs ≡ gives t) where
   built-first : (text : Text) → Bytes text → (f : Found) → FirstBy t text f → FirstWord rs text f
   built-first text b =
-      first-alike (Labels t) (Names rs) text (λ m l p. subst (Names rs (take m text)) p (build-names rs t e (take m text) (bytes-take m text b)))
+      first-alike (Labels t) (Names rs) text (λ m l h k p. subst (Names rs (take m text)) p (build-names rs t e (take m text) (bytes-take m text b)))
 
   pub build-cuts : (room at : ℕ) (text : Text) → Bytes text → Cuts (FirstWord rs) room at text (cutBy (firstBy t) room at text)
   build-cuts room at text b = cut-alike (FirstBy t) (FirstWord rs) Bytes bytes-drop built-first b (cut-is (FirstBy t) (firstBy t) (first-by t) room at text)

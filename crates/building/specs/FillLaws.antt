@@ -108,9 +108,9 @@ module _ {before : ℕ} {w : Walked} {t₀ : List ℕ} {i : ℕ} {s : List ℕ} 
           e ∙ ap (λ (u : List ℕ). nextEdgeAll c (vectorOf s n u)) loaded
           ∙ ap (λ (x : Item). nextEdgeAll c (x .vector)) (sym (items-at s n count i (omega (arith, f .up))))
 
-      module _ {s₁ : List ℕ} {r : Stepped} (x : Steps s n count states s₁ (step (wayOf 0 states (States i)) i (heldOf s n top count) c) r) where
+      module _ {s₁ : List ℕ} {r : Stepped} (x : Steps s n count states s₁ (step (wayOf 0 states i (States i)) i (heldOf s n top count) c) r) where
         own : Steps s n count states s₁ (step alone i (heldOf s n top count) c) r
-        own = steps-way alone i 0 states (States i) (heldOf s n top count) c x refl refl refl
+        own = steps-way alone i 0 states i (States i) (heldOf s n top count) c x refl refl refl refl
 
         -- a refusal ends the row
         pub filling-stop : {q : Refusal} (t₁ : List ℕ) → r ≡ Stopped q → RowComes s₁ n before w t₀ i t₁ r

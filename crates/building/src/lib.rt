@@ -47,7 +47,7 @@ fn fill_row(
     while byte < BYTES {
         let edge = vector::edge_of(cells, vector::load(cells, i), n, byte);
         let full = Refusal::States(i);
-        let made = steps::step(index, cells, next, held, n, i, byte, 0, STATES, full);
+        let made = steps::step(index, cells, next, held, n, i, i, byte, 0, STATES, full);
         let Stepped::Reached(above, more, number) = made else {
             return made;
         };

@@ -10,7 +10,7 @@ use borrow.Author.Tests.{lt-ltb, le-ltb}
 use lib.ListN.{length, take, drop, replicate, length-replicate, drop-of-length-le}
 use Rattle.number.specs.declared.Refusal.{Refusal}
 use Rattle.number.specs.declared.Refusal.the-variants.{Long, Room, Loaded}
-use Rattle.number.specs.Limits.{bytes, pairs, shownText, workCells}
+use Rattle.number.specs.Limits.{bytes, shownText, workCells}
 use Rattle.number.specs.Refused.{Outcome}
 use Rattle.number.specs.Refused.Outcome.{gives, refuses}
 use Rattle.number.specs.Lists.{written}
@@ -25,7 +25,7 @@ use Rattle.walk.specs.Vectors.{Vector, normalised}
 use Rattle.walk.specs.Vectors.Vector.{TooLong, Terms}
 use Rattle.walk.specs.Walk.{nothingHeld, Step, come, Walked, rows, beginBy, onFrom, walkFrom}
 use Rattle.walk.specs.Walk.Walked.{halted}
-use Rattle.vector.specs.Layout.{workLength}
+use Rattle.vector.specs.Layout.{items, workLength}
 use Rattle.vector.specs.Vectors.{vectorOf}
 use Rattle.vector.specs.Memory.{heldOf}
 use Rattle.vector.specs.MemoryLaws.{reads}
@@ -60,7 +60,7 @@ module _ (targets file : List ℕ) (n : ℕ) (s : List ℕ) (top₀ : ℕ) (v : 
   abbrev first : Step
   first = come (byTargets targets) 0 nothingHeld (firstItem (vectorOf s n v))
 
-  begun : Steps s n 0 pairs s₁ first x
+  begun : Steps s n 0 items s₁ first x
   begun = begins .begins (byTargets targets) (omega arith)
 
   as-first : walkFrom (byTargets targets) (rulesIn file) ≡ onFrom (byTargets targets) first
@@ -69,16 +69,16 @@ module _ (targets file : List ℕ) (n : ℕ) (s : List ℕ) (top₀ : ℕ) (v : 
   pub walk-stops : (q : Refusal) → x ≡ Stopped q → Ends n targets s₁ (walkFrom (byTargets targets) (rulesIn file)) x
   walk-stops q e =
       subst (Ends n targets s₁ (walkFrom (byTargets targets) (rulesIn file))) (sym e)
-      (as-first ∙ ap (onFrom (byTargets targets)) (subst (Comes s₁ n 0 pairs first) e (begun .comes)))
+      (as-first ∙ ap (onFrom (byTargets targets)) (subst (Comes s₁ n 0 items first) e (begun .comes)))
 
   module _ (top count j : ℕ) (e : x ≡ Reached top count j) where
-    went : Went s₁ n 0 pairs top count j first
-    went = subst (Comes s₁ n 0 pairs first) e (begun .comes)
+    went : Went s₁ n 0 items top count j first
+    went = subst (Comes s₁ n 0 items first) e (begun .comes)
 
     pub walk-beside : HasRow targets 0 → Beside s₁ n top count targets
     walk-beside some = beside-first targets (vectorOf s n v) s₁ n top count j some went
 
-    pub walk-ends : (s₂ : List ℕ) (y : Stepped) → Ends n targets s₂ (rows (byTargets targets) pairs 0 (heldOf s₁ n top count)) y
+    pub walk-ends : (s₂ : List ℕ) (y : Stepped) → Ends n targets s₂ (rows (byTargets targets) items 0 (heldOf s₁ n top count)) y
         → Ends n targets s₂ (walkFrom (byTargets targets) (rulesIn file)) y
     walk-ends s₂ y r =
         subst (λ (w : Walked). Ends n targets s₂ w y) (sym (as-first ∙ ap (onFrom (byTargets targets)) (went .goes))) r

@@ -1,81 +1,107 @@
 -- The theorems of comparing that are bought, together; each is proved in the file that its proof names.
--- To believe them, read the definitions: Compare and Calls here, Texts and Walk in walk, and those that they stand on.
+-- To believe them, read the definitions: Demand, Compare and Calls here, Texts and Walk in walk, and those that they stand on.
 use Prim.Native.Nat.{ℕ}
-use mathlib.Core.Path.{_≡_, refl, sym, ap, _∙_}
+use mathlib.Core.Path.{_≡_, refl, sym, ap, subst, _∙_}
 use mathlib.Core.List.{List}
 use mathlib.Core.Logic.{_↔_}
 use native.Mathlib.Omega.{arith}
+use lib.ListN.{length}
 use Rattle.number.specs.declared.Refusal.{Refusal}
 use Rattle.number.specs.Numbers.{Bytes}
 use Rattle.number.specs.Refused.{Answer, Outcome}
 use Rattle.number.specs.Refused.Answer.{got, refused}
 use Rattle.number.specs.Refused.Outcome.{gives, refuses}
 use Rattle.meaning.specs.Re.{Re, Text}
-use Rattle.meaning.specs.Rules.{Names, labelAfter}
-use Rattle.meaning.specs.RulesMean.{names-after, names-one}
+use Rattle.meaning.specs.Rules.{labelAfter}
+use Rattle.meaning.specs.RulesMean.{names-after}
+use Rattle.meaning.specs.Words.{FirstWord, firstWord}
+use Rattle.meaning.specs.WordsMean.{first-word, one-first-word}
 use Rattle.book.specs.Book.{Book}
 use Rattle.book.specs.Reads.{readBook}
 use Rattle.book.specs.Expression.{meant}
 use Rattle.table.specs.Table.{Table}
 use Rattle.cutting.specs.Steps.{labelOf}
-use Rattle.walk.specs.Walk.{Walked, walkFrom}
+use Rattle.cutting.specs.Cut.{Cut, Cuts, cutBy}
+use Rattle.cutting.specs.CutLaws.{cut-is, cut-one}
+use Rattle.walk.specs.Walk.{Held, Walked, walkFrom}
 use Rattle.walk.specs.Walk.Walked.{halted, walked}
-use Rattle.walk.specs.HaltLaws.{Met, WalkMet, walk-met}
-use Rattle.walk.specs.Texts.{NotLater}
+use Rattle.walk.specs.KeepLaws.{WalkIs}
+use Rattle.walk.specs.HaltLaws.{Met, walk-met}
 use Rattle.building.specs.Calls.{buildRead, buildBook}
 use Rattle.comparing.specs.Compare.{beside, Verdict, comparedBy, compareRules}
 use Rattle.comparing.specs.Compare.Verdict.{Same, Differs}
 use Rattle.comparing.specs.Calls.{compareRead, compareBook}
-use Rattle.comparing.specs.CompareLaws.{Agree, Shown, Means, compare-means, compare-same}
+use Rattle.comparing.specs.Demand.{CutAlike, WholeAlike, AgreeOn, Differ, Number, Declined, Within}
+use Rattle.comparing.specs.CompareLaws.{compare-means, compare-same}
+use Rattle.comparing.specs.DeclineLaws.{declined, answered, not-both, number-one}
+use Rattle.comparing.specs.CutsAlike.{cuts-agree, cuts-label, shown-cuts, shown-first}
 use Rattle.comparing.specs.OwnSheet.{own-same}
 
--- book and table agree on a text: the table's label is the one that names the text by the book's rules
-abbrev pub AgreeOn : Book → Table → Text → Type 0
-AgreeOn b t w = Names (meant b) w (labelOf t w)
+-- a text has exactly one cut by a book's rules, as it has by a table (cutting, the-cut)
+pub the-book-cut : (rs : List Re) (room at : ℕ) (text : Text) (x : Cut) → Cuts (FirstWord rs) room at text x ↔ (cutBy (firstWord rs) room at text ≡ x)
+the-book-cut rs room at text x =
+    let c = cut-is (FirstWord rs) (firstWord rs) (first-word rs) room at text in
+    (λ d. cut-one (FirstWord rs) (one-first-word rs) c d, λ e. rw (← e) c)
 
-agree-on : (b : Book) (t : Table) (w : Text) → AgreeOn b t w ↔ (labelAfter (meant b) w ≡ labelOf t w)
-agree-on b t w =
-    (λ n. names-one (meant b) w (labelAfter (meant b) w) (labelOf t w) (names-after (meant b) w) n, λ e. rw (← e) (names-after (meant b) w))
+agree-on : (rs : List Re) (t : Table) (w : Text) → labelAfter rs w ≡ labelOf t w → AgreeOn rs t w
+agree-on rs t w e = rw (← e) (names-after rs w)
 
 module _ (file : List ℕ) (b : Book) (after : ℕ) (t : Table) (read : readBook file ≡ got b after) where
   rules-of : (o : Outcome Verdict) → compareBook file t ≡ o → compareRules t (meant b) ≡ o
   rules-of o e = sym (ap (compareRead t) read) ∙ e
 
-  -- Same is answered only where they agree on every text
-  pub the-same : compareBook file t ≡ gives Same → (w : Text) → Bytes w → AgreeOn b t w
-  the-same e w k = agree-on b t w .1 (compare-means (meant b) t Same (rules-of (gives Same) e) w k)
+  -- Same is answered only where both cut every text alike, from every place and with every room
+  pub the-same : compareBook file t ≡ gives Same → (room at : ℕ) (text : Text) → Bytes text → CutAlike (meant b) t room at text
+  the-same e = cuts-agree (meant b) t (compare-means (meant b) t Same (rules-of (gives Same) e))
 
-  -- and wherever they do, and an answer is given, it is Same
-  pub the-only-same : (v : Verdict) → compareBook file t ≡ gives v → ((w : Text) → Bytes w → AgreeOn b t w) → v ≡ Same
-  the-only-same v e a = compare-same (meant b) t v (rules-of (gives v) e) (λ w k. agree-on b t w .0 (a w k))
+  -- demand 3: whatever is answered, it is Same exactly when both cut every text into the same words under the same rules
+  pub the-demand : (v : Verdict) → compareBook file t ≡ gives v → (v ≡ Same) ↔ ((text : Text) → Bytes text → WholeAlike (meant b) t text)
+  the-demand v e = (
+    λ s text k. the-same (e ∙ ap gives s) (length text) 0 text k,
+    λ a. compare-same (meant b) t v (rules-of (gives v) e) (λ w k l. cuts-label (meant b) t w l (a w k)),
+  )
 
-  -- a shown text differs, with these labels, and no text that differs is shorter, or of its length and lower
-  pub record Differ (text : Text) (x y : ℕ) : Type 0 where
-    pub is-text : Bytes text
-    pub by-book : Names (meant b) text x
-    pub by-table : labelOf t text ≡ y
-    pub differ : x ≡ y → ⊥
-    pub first : (w : Text) → Bytes w → (AgreeOn b t w → ⊥) → NotLater text w
-
-  pub the-difference : (text : Text) (x y : ℕ) → compareBook file t ≡ gives (Differs text x y) → Differ text x y
+  -- else the shown text is the first of all that are cut differently, with its labels
+  pub the-difference : (text : Text) (x y : ℕ) → compareBook file t ≡ gives (Differs text x y) → Differ (meant b) t text x y
   the-difference text x y e =
       let s = compare-means (meant b) t (Differs text x y) (rules-of (gives (Differs text x y)) e) in
       record {
         is-text = s .is-text;
+        some = s .some;
+        short = s .short;
         by-book = rw (← s .by-book) (names-after (meant b) text);
         by-table = s .by-table;
         differ = s .differ;
-        first = λ w k f. s .first w k (λ d. f (agree-on b t w .1 d));
+        cuts-differ = shown-cuts (meant b) t text x y s;
+        first = shown-first (meant b) t text x y s;
+        first-label = λ w k l f. s .first w k l (λ d. f (agree-on (meant b) t w d));
       }
 
-  -- it declines only where the walk meets a limit: Long, Pool or Pairs
-  pub the-limits : (r : Refusal) → compareBook file t ≡ refuses r → Met (beside t) r
+  -- it declines only where a limit is passed, at the pair that has the place for its number
+  pub the-limits : (r : Refusal) → compareBook file t ≡ refuses r → Declined (meant b) t r
   unfolding compareRules
-  the-limits r e = go (walkFrom (beside t) (meant b)) (walk-met (beside t) (meant b)) (rules-of (refuses r) e)
+  the-limits r e = go (walkFrom (beside t) (meant b)) (walk-met (beside t) (meant b) (omega arith)) (rules-of (refuses r) e)
     where
-      go : (w : Walked) → WalkMet (beside t) w → comparedBy t w ≡ refuses r → Met (beside t) r
-      go (halted x) m d = let z : x ≡ r = cc in rw (← z) m
+      go : (w : Walked) → WalkIs (λ h. Unit {0}) (Met (beside t) (meant b)) w → comparedBy t w ≡ refuses r → Declined (meant b) t r
+      go (halted x) m d = let z : x ≡ r = cc in rw (← z) (declined (meant b) t m)
       go (walked h js) m d = absurd (let z : _≡_ {A = ℕ} 0 1 = cc in omega arith)
+
+  -- and answers only where none is
+  pub the-answer : (v : Verdict) → compareBook file t ≡ gives v → Within (meant b) t
+  unfolding compareRules
+  the-answer v e = go (walkFrom (beside t) (meant b)) refl (rules-of (gives v) e)
+    where
+      go : (w : Walked) → walkFrom (beside t) (meant b) ≡ w → comparedBy t w ≡ gives v → Within (meant b) t
+      go (halted r) m d = absurd (let z : _≡_ {A = ℕ} 0 1 = cc in omega arith)
+      go (walked h js) m d = answered (meant b) t h js m
+
+-- the two exclude each other; so it declines exactly where a limit is passed
+pub the-exactness : (rs : List Re) (t : Table) (r : Refusal) → Declined rs t r → Within rs t → ⊥
+the-exactness rs t r d w = not-both rs t d w
+
+-- a pair has one number
+pub the-number : (rs : List Re) (t : Table) (w : Text) (m n : ℕ) → Number rs t w m → Number rs t w n → m ≡ n
+the-number rs t w m n p q = number-one rs t m n p q
 
 -- on the table that our build made of the same book it answers Same
 pub the-own-table : (file : List ℕ) (t : Table) → buildBook file ≡ gives t → compareBook file t ≡ gives Same

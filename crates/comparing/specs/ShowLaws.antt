@@ -26,7 +26,7 @@ use Rattle.vector.specs.MemoryLaws.{first-text}
 use Rattle.comparing.specs.declared.Compared.the-variants.{Same, Differs}
 use Rattle.comparing.specs.declared.Seen.{Seen}
 use Rattle.comparing.specs.declared.Seen.the-variants.{Alike, Differ}
-use Rattle.comparing.specs.Compare.{firstDiffering}
+use Rattle.comparing.specs.Compare.{stateOf, firstDiffering}
 use Rattle.comparing.specs.Compare.Verdict.{Same as Verdict·same, Differs as Verdict·differs}
 use Rattle.comparing.specs.Promises.{Sees, Traced, Blank, Shows}
 
@@ -34,10 +34,10 @@ use Rattle.comparing.specs.Promises.{Sees, Traced, Blank, Shows}
 
 -- the first k items agree, so the answer is that of the others
 abbrev pub Left : List ℕ → ℕ → ℕ → List ℕ → ℕ → Type 0
-Left s n count labels k = (t : Table) → t .labels ≡ labels → firstDiffering t (itemsOf s n count) ≡ firstDiffering t (drop k (itemsOf s n count))
+Left s n count labels k = (t : Table) → t .labels ≡ labels → firstDiffering t (drop 1 (itemsOf s n count)) ≡ firstDiffering t (drop k (itemsOf s n count))
 
 module _ (s : List ℕ) (n count : ℕ) (labels : List ℕ) where
-  pub left-first : Left s n count labels 0
+  pub left-first : Left s n count labels 1
   left-first t e = refl
 
   pub left-none : (k : ℕ) → count ≤ k → Left s n count labels k → Sees s n count labels Alike
@@ -47,15 +47,15 @@ module _ (s : List ℕ) (n count : ℕ) (labels : List ℕ) where
       f t e ∙ ap (firstDiffering t) (drop-of-length-le (itemsOf s n count) over)
 
   module _ (k : ℕ) (inside : k < count) (left : Left s n count labels k) (book : ℕ) (by-book : book ≡ label (vectorOf s n (numbersAt s k)))
-      (sheet : ℕ) (by-table : sheet ≡ getD labels (getD s (sheetsAt + k) 0) 0) where
+      (sheet : ℕ) (by-table : sheet ≡ getD labels (stateOf (getD s (sheetsAt + k) 0)) 0) where
     -- item k comes next, with these labels
     next : (t : Table) → t .labels ≡ labels
-        → firstDiffering t (itemsOf s n count)
+        → firstDiffering t (drop 1 (itemsOf s n count))
         ≡ cond (eqb book sheet) (firstDiffering t (drop (suc k) (itemsOf s n count))) (Verdict·differs (textOf s k) book sheet)
     unfolding firstDiffering
     next t e =
         let l : k < length (itemsOf s n count) = omega (arith, items-length s n count) in
-        let q : getD (t .labels) (getD s (sheetsAt + k) 0) 0 ≡ sheet = ap (λ (xs : List ℕ). getD xs (getD s (sheetsAt + k) 0) 0) e ∙ sym by-table in
+        let q : getD (t .labels) (stateOf (getD s (sheetsAt + k) 0)) 0 ≡ sheet = ap (λ (xs : List ℕ). getD xs (stateOf (getD s (sheetsAt + k) 0)) 0) e ∙ sym by-table in
         left t e ∙ rw (drop-cons (itemsOf s n count) k none l, items-at s n count k inside, firstDiffering, q, ← by-book)
 
     pub left-next : book ≡ sheet → Left s n count labels (k + 1)
@@ -165,7 +165,7 @@ module _ (s : List ℕ) (n count : ℕ) (labels area : List ℕ) (blank : Blank 
   pub shows-same : x ≡ Alike → Shows s n count labels area area Same
   shows-same e = record {
     shows = λ t q.
-        let v : firstDiffering t (itemsOf s n count) ≡ Verdict·same = subst (Sees s n count labels) e sees t q in
+        let v : firstDiffering t (drop 1 (itemsOf s n count)) ≡ Verdict·same = subst (Sees s n count labels) e sees t q in
         record { answer = rw v refl; text = rw v (blank .clear) };
   }
 
@@ -176,7 +176,7 @@ module _ (s : List ℕ) (n count : ℕ) (labels area : List ℕ) (blank : Blank 
     pub shows-differs : (area′ : List ℕ) (len : ℕ) → Writes (textOf s k) area area′ 0 len → Shows s n count labels area area′ (Differs len book sheet)
     shows-differs area′ len w = record {
       shows = λ t q.
-          let v : firstDiffering t (itemsOf s n count) ≡ Verdict·differs (textOf s k) book sheet = subst (Sees s n count labels) e sees .1 t q in
+          let v : firstDiffering t (drop 1 (itemsOf s n count)) ≡ Verdict·differs (textOf s k) book sheet = subst (Sees s n count labels) e sees .1 t q in
           let m : len ≡ length (textOf s k) = omega (arith, w .place) in
           record { answer = rw (v, m) refl; text = w .out ∙ written-padded area (textOf s k) blank ∙ rw v refl };
     }

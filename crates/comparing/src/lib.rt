@@ -1,25 +1,27 @@
-// Comparing a book with a table in lent memory: the same, or the shortest, lowest text on which they differ.
-// The walk is the build's, beside the table; it is finished before an answer is given.
+// Comparing a book with a table in lent memory: the same, or the shortest, lowest text that they cut differently.
+// The walk is the build's, beside the table with an entry in front of it, so that only non-empty texts count; it is finished first.
 ghost use Prim.Native.Nat.{_+_, _<_, _≤_};
+ghost use mathlib.Core.Path.{_≡_};
 ghost use lib.ListN.{length};
-ghost use Rattle.number.specs.Limits.{bytes, pairs, workCells};
+ghost use Rattle.number.specs.Limits.{bytes, workCells};
 ghost use Rattle.number.specs.Lists.{Writes};
 ghost use Rattle.walk.specs.Walk.{row, rows, walkFrom};
 ghost use Rattle.pool.specs.Index.{Indexed};
-ghost use Rattle.vector.specs.Layout.{workLength};
-ghost use Rattle.vector.specs.Memory.{textOf, heldOf};
+ghost use Rattle.vector.specs.Layout.{items, workLength};
+ghost use Rattle.vector.specs.Memory.{textOf, itemsOf, heldOf};
 ghost use Rattle.steps.specs.Step.{Follows};
 ghost use Rattle.start.specs.Start.{rulesIn, Opened};
-ghost use Rattle.comparing.specs.Promises.{byTargets, HasRow, Closed, Beside, RunTo, Ends, Legible, Sees, Traced};
+ghost use Rattle.comparing.specs.Compare.{stateOf, numberTold};
+ghost use Rattle.comparing.specs.Promises.{byTargets, Numbered, HasRow, Closed, Beside, RunTo, Ends, Legible, Sees, Traced};
 ghost use Rattle.comparing.specs.Promises.{Blank, Answers, Shows, Comparable, Rules, loadedOf, Compares};
 use book::Checked;
 use number::Refusal;
 use number::limits::BYTES;
-use number::limits::PAIRS;
 use number::limits::SHOWN_TEXT;
 use pool::INDEX_CELLS;
 use steps::Stepped;
 use vector::layout::BYTES_AT;
+use vector::layout::ITEMS;
 use vector::layout::PARENTS_AT;
 use vector::layout::SHEETS_AT;
 use vector::layout::WORK_LENGTH;
@@ -54,6 +56,31 @@ fn run_end(targets: &[u8], from: usize, end: usize) -> usize
     i
 }
 
+// The table's state behind an item's number for it: 0 is the entry, which goes on as state 0 does, and q + 1 is state q.
+fn state_of(q: usize) -> usize
+    ensures { λ r. ⌜ r ≡ stateOf q ⌝ }
+{
+    if 0 < q {
+        return q - 1;
+    }
+    0
+}
+
+// The number told for item `i`: 0 for the start that was met again, and one less than its place for items behind it.
+fn number_told(cells: &[u64], n: usize, count: usize, i: usize) -> usize
+    requires { ⌜ Numbered (now cells) n count i ⌝ }
+    ensures { λ r. ⌜ r ≡ numberTold (itemsOf (now (cells .entry)) n count) i ⌝ }
+{
+    let back = vector::find(cells, count, 1, vector::load(cells, 0));
+    if back < i {
+        return i - 1;
+    }
+    if i < back {
+        return i;
+    }
+    0
+}
+
 // The row of item `i`: one step for each run of bytes that no range tells apart and that lead the table to one state.
 fn walk_row(
     index: &mut [usize],
@@ -72,15 +99,16 @@ fn walk_row(
         (row (byTargets (now (targets .entry))) i bytes 0 (heldOf (now (cells .entry)) n top count)) r ⌝ }
     ensures { λ r. ⌜ Follows (now (index .exit)) (now (cells .exit)) r ⌝ }
 {
-    let base = cells[SHEETS_AT + i] as usize * BYTES;
+    let place = number_told(cells, n, count, i);
+    let base = state_of(cells[SHEETS_AT + i] as usize) * BYTES;
     let mut next = top;
     let mut held = count;
     let mut c: usize = 0;
     while c < BYTES {
         let at = base + c;
-        let to = targets[at] as usize;
-        let full = Refusal::Pairs(i);
-        let went = steps::step(index, cells, next, held, n, i, c, to, PAIRS, full);
+        let to = targets[at] as usize + 1;
+        let full = Refusal::Pairs(place);
+        let went = steps::step(index, cells, next, held, n, i, place, c, to, ITEMS, full);
         let Stepped::Reached(above, more, _) = went else {
             return went;
         };
@@ -105,7 +133,7 @@ fn walk_rows(
     requires { ⌜ Closed (now targets) ⌝ }
     requires { ⌜ Indexed (now index) (now cells) top ⌝ }
     ensures { λ r. ⌜ Ends n (now (targets .entry)) (now (cells .exit))
-        (rows (byTargets (now (targets .entry))) pairs 0 (heldOf (now (cells .entry)) n top count)) r ⌝ }
+        (rows (byTargets (now (targets .entry))) items 0 (heldOf (now (cells .entry)) n top count)) r ⌝ }
 {
     let mut next = top;
     let mut held = count;
@@ -142,15 +170,15 @@ fn walk_from<'a>(book: &'a [u8], n: usize, cells: &mut [u64], targets: &'a [u8])
     walk_rows(&mut index, cells, top, count, n, targets)
 }
 
-// The first of the items whose labels differ, with both labels.
+// The first of the items past the entry whose labels differ, with both labels.
 fn first_differing<'a>(cells: &'a [u64], n: usize, count: usize, labels: &'a [u8]) -> Seen
     requires { ⌜ Legible (now cells) n count (now labels) ⌝ }
     ensures { λ r. ⌜ Sees (now (cells .entry)) n count (now (labels .entry)) r ⌝ }
 {
-    let mut k: usize = 0;
+    let mut k: usize = 1;
     while k < count {
         let by_book = vector::label_of(cells, vector::load(cells, k), n);
-        let state = cells[SHEETS_AT + k] as usize;
+        let state = state_of(cells[SHEETS_AT + k] as usize);
         let by_table = labels[state] as usize;
         if by_book != by_table {
             return Seen::Differ(k, by_book, by_table);

@@ -35,11 +35,15 @@ module _ (N : Text → ℕ → Type 0) (only : (w : Text) (l m : ℕ) → N w l 
         ]
       ]
 
--- labels that are alike on every prefix give alike words
-module _ (N M : Text → ℕ → Type 0) (text : Text) (same : (m l : ℕ) → N (take m text) l → M (take m text) l) where
+-- labels that are alike on every non-empty prefix give alike words
+module _ (N M : Text → ℕ → Type 0) (text : Text) (same : (m l : ℕ) → 0 < m → m ≤ length text → N (take m text) l → M (take m text) l) where
   pub first-alike : (f : Found) → First N text f → First M text f
-  first-alike Stuck p = λ m h k. same m 0 (p m h k)
-  first-alike (Word n r) p = (p .0, p .1, same n (suc r) (p .2), λ m h k. same m 0 (p .3 m h k))
+  first-alike Stuck p = λ m h k. same m 0 h k (p m h k)
+  first-alike (Word n r) p = (p .0, p .1, same n (suc r) (p .0) (p .1) (p .2), λ m h k. same m 0 (omega (arith, p .0)) k (p .3 m h k))
+
+-- a non-empty text with a label is its own first word
+pub first-whole : (N : Text → ℕ → Type 0) (text : Text) (r : ℕ) → 0 < length text → N text (suc r) → First N text (Word (length text) r)
+first-whole N text r l p = (l, omega arith, rw (take-all (length text) text (omega arith)) p, λ m h k. absurd (omega arith))
 
 -- one more byte
 length-more : (p : Text) (c : ℕ) → length (p ++ (c ∷ [])) ≡ suc (length p)

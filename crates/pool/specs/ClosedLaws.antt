@@ -11,8 +11,8 @@ use Rattle.term.specs.declared.Term.{Term}
 use Rattle.term.specs.declared.Term.the-variants.{Nothing, Empty, Range, Cat, Alt, Star}
 use Rattle.term.specs.Cells.{nodeOf, grow, term, Below, Sound}
 use Rattle.term.specs.CellLaws.{term-node}
-use Rattle.walk.specs.PartsLaws.{Part, Held, Closed}
-use Rattle.walk.specs.PartsLaws.Part.{whole, cat-left, cat-right, alt-left, alt-right, star-in}
+use Rattle.walk.specs.Parts.{Part, Held, Closed}
+use Rattle.walk.specs.Parts.Part.{whole, cat-left, cat-right, alt-left, alt-right, star-in}
 use Rattle.pool.specs.Pooled.{termsOf}
 use Rattle.pool.specs.PoolLaws.{Stands, held-stands, term-held-below}
 use Rattle.pool.specs.NodeLaws.{below-more}

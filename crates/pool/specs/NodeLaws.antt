@@ -19,8 +19,8 @@ use Rattle.term.specs.Cells.{nodeOf, cellOf, grow, term, Below, Sound}
 use Rattle.term.specs.Nodes.{kindOf, firstOf, secondOf, Pushed}
 use Rattle.term.specs.ReadLaws.{kind-grow, rebuild, of-kind}
 use Rattle.term.specs.CellLaws.{Same, frame, term-node, node-cell, below-fields}
-use Rattle.walk.specs.Parts.{holds, withTerm}
-use Rattle.walk.specs.PartsLaws.{Held, term-held, term-new}
+use Rattle.walk.specs.Parts.{holds, withTerm, Held}
+use Rattle.walk.specs.PartsLaws.{term-held, term-new}
 use Rattle.pool.specs.Pooled.{termsOf, Pooled}
 use Rattle.pool.specs.Index.{poolCells, Indexed, chained, After}
 use Rattle.pool.specs.Steps.{sameNode, Looked}

@@ -14,8 +14,8 @@ use Rattle.meaning.specs.Re.Re.{Nothing}
 use Rattle.meaning.specs.Tests.{clash}
 use Rattle.term.specs.Cells.{term, Sound}
 use Rattle.term.specs.CellLaws.{Same, frame, sound-none, sound-same}
-use Rattle.walk.specs.Parts.{holds}
-use Rattle.walk.specs.PartsLaws.{Held, Once, held-front, held-last, held-snoc}
+use Rattle.walk.specs.Parts.{holds, Held, Once}
+use Rattle.walk.specs.PartsLaws.{held-front, held-last, held-snoc}
 use Rattle.pool.specs.Pooled.{termsOf, Pool, Pooled}
 
 -- the top is the number of terms

@@ -112,6 +112,21 @@ fn comparisons() {
         b"w.book",
         b"merged.sheet",
     );
+    compare(
+        b"compare: the sample's own sheet, its start labelled\n",
+        b"w.book",
+        b"start.sheet",
+    );
+    compare(
+        b"compare: (ab)* and its own sheet, its start without label\n",
+        b"ab.book",
+        b"ab.sheet",
+    );
+    compare(
+        b"compare: a* and its own sheet, its start without label\n",
+        b"a.book",
+        b"a.sheet",
+    );
     compare(b"compare: no book\n", b"no.book", b"own.sheet");
     compare(
         b"compare: no sheet, and a book that ends a byte early\n",

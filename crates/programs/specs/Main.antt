@@ -1,13 +1,13 @@
 -- The theorems of the programs that are bought, together: what they print is what the textbook and the calls of document 01 say.
 -- To believe them, read the definitions: Output and Print here, Lines in lines, and those that they stand on.
-use Prim.Native.Nat.{ℕ, _≤_}
+use Prim.Native.Nat.{ℕ, _<_, _≤_}
 use native.Mathlib.Omega.{arith}
 use mathlib.Core.Path.{_≡_, refl, sym, ap, _∙_}
 use mathlib.Core.Bool.{true, false}
 use mathlib.Core.List.{List}
 use lib.ListN.{length, getD}
 use Rattle.number.specs.declared.Refusal.{Refusal}
-use Rattle.number.specs.Limits.{bookFile, textFile, sheetFile}
+use Rattle.number.specs.Limits.{bookFile, textFile, sheetFile, shownText}
 use Rattle.number.specs.Numbers.{Bytes}
 use Rattle.number.specs.Refused.{Answer, Outcome}
 use Rattle.number.specs.Refused.Answer.{got, refused}
@@ -30,6 +30,7 @@ use Rattle.lines.specs.Lines.{sameLine, differsLine, refusedLine}
 use Rattle.comparing.specs.Compare.{Verdict}
 use Rattle.comparing.specs.Compare.Verdict.{Same, Differs}
 use Rattle.comparing.specs.Calls.{compareBook}
+use Rattle.comparing.specs.Demand.{CutAlike}
 use Rattle.comparing.specs.Main as comparing
 use Rattle.programs.specs.declared.sheet.Made.{Made}
 use Rattle.programs.specs.declared.sheet.Made.the-variants.{Sheet, Line}
@@ -94,9 +95,16 @@ module _ (book : List ℕ) (b : Book) (after : ℕ) (sheet : List ℕ) (t : Tabl
       ∙ ap (λ (x : Answer Book). verdictLines (bookFirst x (sheetNext book (readSheet sheet)))) read
       ∙ ap (λ (x : Answer Table). verdictLines (sheetNext book x)) loaded
 
-  -- `same` is printed only where book and sheet agree on every text
-  pub the-same-line : comparePrint book sheet ≡ sameLine → (w : Text) → Bytes w → comparing.AgreeOn b t w
+  -- `same` is printed only where book and sheet cut every text alike
+  pub the-same-line : comparePrint book sheet ≡ sameLine → (room at : ℕ) (text : Text) → Bytes text → CutAlike (meant b) t room at text
   the-same-line e = comparing.the-same book b after t read (same-only (compareBook book t) (sym the-comparison ∙ e))
+
+  -- a difference is printed with a text of 1 to 256 bytes: never `differs 0`
+  pub the-differs-line : (text : Text) (x y : ℕ) → compareBook book t ≡ gives (Differs text x y)
+      → (comparePrint book sheet ≡ verdictLines (gives (Differs text x y))) × (0 < length text) × (length text ≤ shownText)
+  the-differs-line text x y e =
+      let d = comparing.the-difference book b after t read text x y e in
+      (the-comparison ∙ ap verdictLines e, d .some, d .short)
 
 -- ---- sheet
 

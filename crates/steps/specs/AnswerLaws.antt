@@ -7,7 +7,7 @@ use native.Mathlib.Omega.{arith}
 use lib.ListN.{length, getD}
 use Rattle.number.specs.declared.Refusal.{Refusal}
 use Rattle.number.specs.declared.Refusal.the-variants.{Long, Pool}
-use Rattle.number.specs.Limits.{pool, pairs}
+use Rattle.number.specs.Limits.{pool}
 use Rattle.meaning.specs.Re.{Re}
 use Rattle.meaning.specs.Re.Re.{Nothing}
 use Rattle.term.specs.Cells.{Sound}
@@ -19,11 +19,12 @@ use Rattle.pool.specs.PoolLaws.{pool-length, pooled, terms-length, term-held-be
 use Rattle.pool.specs.ClosedLaws.{pool-closed}
 use Rattle.walk.specs.Vectors.{Vector, derived}
 use Rattle.walk.specs.Vectors.Vector.{TooLong, Terms}
-use Rattle.walk.specs.Parts.{withVector}
-use Rattle.walk.specs.PartsLaws.{vector-held, Held as Pool·held}
+use Rattle.walk.specs.Parts.{withVector, Held as Pool·held}
+use Rattle.walk.specs.PartsLaws.{vector-held}
 use Rattle.walk.specs.Walk.{Item, none, Held, nothingHeld, numberIn, Way, added, come, after, comeBy, step}
 use Rattle.walk.specs.Walk.Step.{reached}
 use Rattle.walk.specs.StepLaws.{item}
+use Rattle.vector.specs.Layout.{items}
 use Rattle.vector.specs.Vectors.{vectorOf, Numbers}
 use Rattle.vector.specs.PlaceLaws.{vector-length, vector-at}
 use Rattle.vector.specs.Memory.{numbersAt, textOf, itemOf, itemsOf, heldOf, Kept}
@@ -53,15 +54,15 @@ held-as p q = λ i. record { items = p i; pool = q i }
 
 -- ---- a step, after item i was loaded and derived
 
-module _ (s : List ℕ) (n top count limit i byte sheet : ℕ) (full : Refusal) (ok : Ready s n top count limit i byte) (v : List ℕ)
+module _ (s : List ℕ) (n top count limit i place byte sheet : ℕ) (full : Refusal) (ok : Ready s n top count limit i byte) (v : List ℕ)
     (loaded : v ≡ numbersAt s i) (s′ : List ℕ) (spared : Spared s top s′) where
   abbrev way : Way
-  way = wayOf sheet limit full
+  way = wayOf sheet limit place full
 
   abbrev old : Held
   old = heldOf s n top count
 
-  few : count ≤ pairs
+  few : count ≤ items
   few = omega (arith, ok .few, ok .most)
 
   here : item old i ≡ itemOf s n i
@@ -75,7 +76,7 @@ module _ (s : List ℕ) (n top count limit i byte sheet : ℕ) (full : Refusal) 
   step-by d e = ap (comeBy way i old byte) (ap (derived byte) (sym from) ∙ e)
 
   -- a term on the way was too long
-  pub answer-long : derived byte (vectorOf s n v) ≡ TooLong → Steps s n count limit s′ (step way i old byte) (Stopped (Long i))
+  pub answer-long : derived byte (vectorOf s n v) ≡ TooLong → Steps s n count limit s′ (step way i old byte) (Stopped (Long place))
   answer-long e = record { same-length = spared .same-length; comes = step-by TooLong e }
 
   -- ---- the derived vector, looked for among the items
@@ -89,7 +90,7 @@ module _ (s : List ℕ) (n top count limit i byte sheet : ℕ) (full : Refusal) 
     abbrev next : Item
     next = after way (item old i) byte (vectorOf s′ n w)
 
-    comes : step way i old byte ≡ come way i old next
+    comes : step way i old byte ≡ come way place old next
     comes = step-by (Terms (vectorOf s′ n w)) (done .terms)
 
     number : at ≡ numberIn (itemsOf s n count) next
@@ -124,7 +125,7 @@ module _ (s : List ℕ) (n top count limit i byte sheet : ℕ) (full : Refusal) 
       same-length = spared .same-length;
       comes = record {
         goes =
-            comes ∙ come-held way i old next at number (omega (arith, many))
+            comes ∙ come-held way place old next at number (omega (arith, many))
             ∙ ap (λ (h : Held). reached h at)
             (held-as (sym (items-spared s n top count s′ (ok .kept) few spared)) (sym (terms-spared s n top count s′ (ok .kept) few spared)));
         kept = kept-spared s n top count s′ (ok .kept) few spared;
@@ -138,19 +139,19 @@ module _ (s : List ℕ) (n top count limit i byte sheet : ℕ) (full : Refusal) 
     pub answer-full : count ≤ at → limit ≤ count → Steps s n count limit s′ (step way i old byte) (Stopped full)
     answer-full l m = record {
       same-length = spared .same-length;
-      comes = comes ∙ come-full way i old next at number (omega (arith, many)) (omega (arith, many));
+      comes = comes ∙ come-full way place old next at number (omega (arith, many)) (omega (arith, many));
     }
 
-    pub answer-pool : count ≤ at → count < limit → pool < top′ → Steps s n count limit s′ (step way i old byte) (Stopped (Pool i))
+    pub answer-pool : count ≤ at → count < limit → pool < top′ → Steps s n count limit s′ (step way i old byte) (Stopped (Pool place))
     answer-pool l m o = record {
       same-length = spared .same-length;
-      comes = comes ∙ come-pool way i old next at number (omega (arith, many)) (omega (arith, many)) (omega (arith, size));
+      comes = comes ∙ come-pool way place old next at number (omega (arith, many)) (omega (arith, many)) (omega (arith, size));
     }
 
     -- ---- and stored as a new one
 
     module _ (new : count < limit) (fits : top′ ≤ pool) (s″ : List ℕ) (stored : s″ ≡ itemStored s′ count w sheet i byte) where
-      room : count < pairs
+      room : count < items
       room = omega (arith, ok .most)
 
       text : textOf s′ i ≡ item old i .text
@@ -174,7 +175,7 @@ module _ (s : List ℕ) (n top count limit i byte sheet : ℕ) (full : Refusal) 
         same-length = stored-length s′ n top′ count w sheet i byte s″ grown room (done .numbers) stored ∙ spared .same-length;
         comes = record {
           goes =
-              comes ∙ come-new way i old next at number (omega (arith, many)) (omega (arith, many)) (omega (arith, size))
+              comes ∙ come-new way place old next at number (omega (arith, many)) (omega (arith, many)) (omega (arith, size))
               ∙ ap (λ (h : Held). reached h (length (itemsOf s n count))) (sym held) ∙ ap (reached (heldOf s″ n top′ (count + 1))) many;
           kept = stored-kept s′ n top′ count w sheet i byte s″ grown room (done .numbers) stored (λ z. ok .inside) (ok .small);
           low = fits;

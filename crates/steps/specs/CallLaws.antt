@@ -5,11 +5,12 @@ use mathlib.Core.Path.{_≡_, subst}
 use mathlib.Core.List.{List}
 use native.Mathlib.Omega.{arith}
 use Rattle.number.specs.declared.Refusal.{Refusal}
-use Rattle.number.specs.Limits.{bytes, pairs}
+use Rattle.number.specs.Limits.{bytes}
 use Rattle.walk.specs.Walk.{Held, Step, Way, step}
 use Rattle.walk.specs.Walk.Step.{stopped}
 use Rattle.walk.specs.StepLaws.{item}
 use Rattle.pool.specs.Index.{Indexed}
+use Rattle.vector.specs.Layout.{items}
 use Rattle.vector.specs.Memory.{numbersAt, Kept}
 use Rattle.vector.specs.Promises.{Within, Reads}
 use Rattle.vector.specs.MemoryLaws.{reads}
@@ -32,19 +33,19 @@ pub followed : {x s : List ℕ} {r : Stepped} {top count j : ℕ} → Follows x 
 followed {x} {s} f e = subst (Follows x s) e f
 
 -- the step is one of the caller's walk
-pub steps-way : {s : List ℕ} {n before : ℕ} {s′ : List ℕ} {r : Stepped} (way : Way) (i sheet limit : ℕ) (full : Refusal) (h : Held) (c : ℕ)
-    → Steps s n before limit s′ (step (wayOf sheet limit full) i h c) r → sheet ≡ way .go (item h i .sheet) c → limit ≡ way .limit
-    → full ≡ way .full i → Steps s n before limit s′ (step way i h c) r
-steps-way {s} {n} {before} {s′} {r} way i sheet limit full h c x o p q =
-    subst (λ (w : Step). Steps s n before limit s′ w r) (step-way way i sheet limit full h c o p q) x
+pub steps-way : {s : List ℕ} {n before : ℕ} {s′ : List ℕ} {r : Stepped} (way : Way) (i sheet limit place : ℕ) (full : Refusal) (h : Held) (c : ℕ)
+    → Steps s n before limit s′ (step (wayOf sheet limit place full) i h c) r → sheet ≡ way .go (item h i .sheet) c → limit ≡ way .limit
+    → place ≡ way .told (h .items) i → full ≡ way .full place → Steps s n before limit s′ (step way i h c) r
+steps-way {s} {n} {before} {s′} {r} way i sheet limit place full h c x o p z q =
+    subst (λ (w : Step). Steps s n before limit s′ w r) (step-way way i sheet limit place full h c o p z q) x
 
 -- the next step may be made from an item that was there before
-pub ready-next : {s : List ℕ} {n before limit top count j : ℕ} {w : Step} (i byte : ℕ) → Went s n before limit top count j w → limit ≤ pairs
+pub ready-next : {s : List ℕ} {n before limit top count j : ℕ} {w : Step} (i byte : ℕ) → Went s n before limit top count j w → limit ≤ items
     → i < before → byte < bytes → Ready s n top count limit i byte
 ready-next i byte x m l b = record { kept = x .kept; low = x .low; inside = omega (arith, x .up); few = x .few; most = m; small = b }
 
 -- held items can be loaded and read
-pub kept-within : {s : List ℕ} {n top count : ℕ} (k : ℕ) → Kept s n top count → count ≤ pairs → k < count → Within s k
+pub kept-within : {s : List ℕ} {n top count : ℕ} (k : ℕ) → Kept s n top count → count ≤ items → k < count → Within s k
 kept-within k x m l = record { long = x .long; few = omega arith }
 
 pub kept-reads : {s : List ℕ} {n top count : ℕ} (k : ℕ) → Kept s n top count → k < count → Reads s n (numbersAt s k)

@@ -5,21 +5,22 @@ use mathlib.Core.Path.{_≡_}
 use mathlib.Core.List.{List, []}
 use lib.ListN.{length}
 use Rattle.number.specs.declared.Refusal.{Refusal}
-use Rattle.number.specs.Limits.{bytes, pool, pairs}
+use Rattle.number.specs.Limits.{bytes, pool}
 use Rattle.meaning.specs.Re.{Re}
 use Rattle.pool.specs.Pooled.{termsOf}
 use Rattle.pool.specs.Index.{Indexed}
 use Rattle.walk.specs.Parts.{withVector}
 use Rattle.walk.specs.Walk.{Item, nothingHeld, Step, Way, come}
 use Rattle.walk.specs.Walk.Step.{stopped, reached}
+use Rattle.vector.specs.Layout.{items}
 use Rattle.vector.specs.Vectors.{vectorOf, Numbers}
 use Rattle.vector.specs.Memory.{heldOf, Kept}
 use Rattle.steps.specs.declared.Stepped.{Stepped}
 use Rattle.steps.specs.declared.Stepped.the-variants.{Reached, Stopped}
 
--- the way of one step: the sheet state that it leads to, how many items may be held, and the refusal of one more
-abbrev pub wayOf : ℕ → ℕ → Refusal → Way
-wayOf sheet limit full = record { go = λ q c. sheet; limit = limit; full = λ i. full }
+-- the way of one step: the sheet state that it leads to, how many items may be held, the place to tell, and the refusal of one more
+abbrev pub wayOf : ℕ → ℕ → ℕ → Refusal → Way
+wayOf sheet limit place full = record { go = λ q c. sheet; limit = limit; full = λ i. full; told = λ xs i. place }
 
 -- a step can be made from item i by a byte
 pub record Ready (s : List ℕ) (n top count limit i byte : ℕ) : Type 0 where
@@ -27,7 +28,7 @@ pub record Ready (s : List ℕ) (n top count limit i byte : ℕ) : Type 0 where
   pub low : top ≤ pool
   pub inside : i < count
   pub few : count ≤ limit
-  pub most : limit ≤ pairs
+  pub most : limit ≤ items
   pub small : byte < bytes
 
 -- walk's step reaches number j, and what it holds then is what the work area holds up to this top and this count

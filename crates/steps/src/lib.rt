@@ -18,7 +18,8 @@ pub enum Stepped {
     Stopped(Refusal),
 }
 
-// The step from item `i` by a byte, where the sheet goes to state `sheet`; one item more than `limit` is refused with `full`.
+// The step from item `i`, whose number is told as `place`, by a byte, where the sheet goes to state `sheet`;
+// one item more than `limit` is refused with `full`.
 pub fn step(
     index: &mut [usize],
     cells: &mut [u64],
@@ -26,6 +27,7 @@ pub fn step(
     count: usize,
     n: usize,
     i: usize,
+    place: usize,
     byte: usize,
     sheet: usize,
     limit: usize,
@@ -34,13 +36,13 @@ pub fn step(
     requires { ⌜ Ready (now cells) n top count limit i byte ⌝ }
     requires { ⌜ Indexed (now index) (now cells) top ⌝ }
     ensures { λ r. ⌜ Steps (now (cells .entry)) n count limit (now (cells .exit))
-        (step (wayOf sheet limit full) i (heldOf (now (cells .entry)) n top count) byte) r ⌝ }
+        (step (wayOf sheet limit place full) i (heldOf (now (cells .entry)) n top count) byte) r ⌝ }
     ensures { λ r. ⌜ Follows (now (index .exit)) (now (cells .exit)) r ⌝ }
 {
     let v = load(cells, i);
     let derived = derive_vector(index, cells, top, v, n, byte);
     if derived.long {
-        return Stepped::Stopped(Refusal::Long(i));
+        return Stepped::Stopped(Refusal::Long(place));
     }
     let next = derived.top;
     let w = derived.vector;
@@ -52,7 +54,7 @@ pub fn step(
         return Stepped::Stopped(full);
     }
     if POOL < next {
-        return Stepped::Stopped(Refusal::Pool(i));
+        return Stepped::Stopped(Refusal::Pool(place));
     }
     store_item(cells, count, w, sheet, i, byte);
     Stepped::Reached(next, count + 1, count)

@@ -31,9 +31,9 @@ use Rattle.normal.specs.Asked.{derivRoom, derivCells, Derives}
 use Rattle.normal.specs.AnswerLaws.{Got, long-is}
 use Rattle.walk.specs.Vectors.{Vector, front, derived}
 use Rattle.walk.specs.Vectors.Vector.{TooLong, Terms}
-use Rattle.walk.specs.Parts.{withParts, withVector}
-use Rattle.walk.specs.PartsLaws.{Part, Held, parts-hold}
-use Rattle.walk.specs.PartsLaws.Part.{whole, cat-left, cat-right, alt-left, alt-right, star-in}
+use Rattle.walk.specs.Parts.{withParts, withVector, Part, Held}
+use Rattle.walk.specs.PartsLaws.{parts-hold}
+use Rattle.walk.specs.Parts.Part.{whole, cat-left, cat-right, alt-left, alt-right, star-in}
 use Rattle.pool.specs.Pooled.{termsOf, Pool}
 use Rattle.pool.specs.Index.{Indexed, Open, Put}
 use Rattle.pool.specs.IndexLaws.{indexed-same}

@@ -4,6 +4,10 @@ use Prim.Native.Nat.{ℕ, _+_, _*_}
 use Rattle.number.specs.Limits.{rules, pairs, scratch}
 use Rattle.pool.specs.Index.{poolCells}
 
+-- so many items are held at most: the pairs of a comparison, and its entry
+abbrev pub items : ℕ
+items = pairs + 1
+
 -- above the pool and the scratch, a cell that always holds Nothing: what the places past the last rule hold
 abbrev pub nothingCell : ℕ
 nothingCell = poolCells + scratch
@@ -13,14 +17,14 @@ abbrev pub vectorsAt : ℕ
 vectorsAt = nothingCell + rules
 
 abbrev pub sheetsAt : ℕ
-sheetsAt = vectorsAt + pairs * rules
+sheetsAt = vectorsAt + items * rules
 
 abbrev pub parentsAt : ℕ
-parentsAt = sheetsAt + pairs
+parentsAt = sheetsAt + items
 
 abbrev pub bytesAt : ℕ
-bytesAt = parentsAt + pairs
+bytesAt = parentsAt + items
 
 -- the length of the work area
 abbrev pub workLength : ℕ
-workLength = bytesAt + pairs
+workLength = bytesAt + items

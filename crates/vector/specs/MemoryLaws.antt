@@ -12,7 +12,7 @@ use borrow.Author.Count.{below-more}
 use lib.Dec.{eqb·suc-zero}
 use lib.ListN.{length, getD, take, drop, length-append, length-take, length-drop, length-set, List·getD-append}
 use lib.Seq.{paste, ext-getD, getD-at, getD-take, getD-drop, getD-set-same, getD-set-other, drop-paste, length-paste, length-paste-head, length-take-le, drop-at, take-at, take-all}
-use Rattle.number.specs.Limits.{rules, pairs, bytes}
+use Rattle.number.specs.Limits.{rules, bytes}
 use Rattle.meaning.specs.Re.{Re, Text}
 use Rattle.meaning.specs.Re.Re.{Nothing}
 use Rattle.term.specs.Cells.{term, Sound}
@@ -22,7 +22,7 @@ use Rattle.pool.specs.PoolLaws.{terms-frame, same-number, pooled, pool-same}
 use Rattle.walk.specs.Walk.{Item, none, samePair, numberIn}
 use Rattle.walk.specs.StepLaws.{Pair, pair-same, same-pair}
 use Rattle.pool.specs.Index.{poolCells}
-use Rattle.vector.specs.Layout.{nothingCell, vectorsAt, sheetsAt, parentsAt, bytesAt}
+use Rattle.vector.specs.Layout.{items, nothingCell, vectorsAt, sheetsAt, parentsAt, bytesAt}
 use Rattle.vector.specs.Vectors.{vectorOf, Numbers}
 use Rattle.vector.specs.Memory.{numbersAt, textBy, textOf, itemOf, itemsOf, Shaped, Kept}
 use Rattle.vector.specs.Promises.{Reads, Spared, Finds, vectorStored, sheetStored, parentStored, itemStored}
@@ -173,7 +173,7 @@ part-same s s′ at m e h =
 
 -- ---- the pool grows
 
-module _ (s : List ℕ) (n top count : ℕ) (s′ : List ℕ) (kept : Kept s n top count) (few : count ≤ pairs) (x : Spared s top s′) where
+module _ (s : List ℕ) (n top count : ℕ) (s′ : List ℕ) (kept : Kept s n top count) (few : count ≤ items) (x : Spared s top s′) where
   spared-unmoved : Unmoved s s′ count
   spared-unmoved = record {
     numbers = λ k h. part-same s s′ (vectorsAt + k * rules) rules (x .same-length) (λ i l. x .kept-above (vectorsAt + k * rules + i) (omega arith));
@@ -249,7 +249,7 @@ paste-part s at v m h e =
     let t : take m v ≡ v = take-all m v (omega arith) in
     rw (t, append-assoc, drop-at (take at s) (v ++ drop (at + m) s) at (length-take-le at s h)) (take-at v (drop (at + m) s) m e)
 
-module _ (s : List ℕ) (n top k : ℕ) (v : List ℕ) (sheet parent byte : ℕ) (s′ : List ℕ) (kept : Kept s n top k) (few : k < pairs) (m : Numbers n top v)
+module _ (s : List ℕ) (n top k : ℕ) (v : List ℕ) (sheet parent byte : ℕ) (s′ : List ℕ) (kept : Kept s n top k) (few : k < items) (m : Numbers n top v)
     (e : s′ ≡ itemStored s k v sheet parent byte) where
   long : length (vectorStored s k v) ≡ length s
   long = length-paste s (vectorsAt + k * rules) v rules (omega (arith, kept .long)) (omega (arith, m .whole))

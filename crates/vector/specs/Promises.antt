@@ -6,7 +6,7 @@ use mathlib.Core.Bool.{Bool, true, false}
 use mathlib.Core.List.{List}
 use lib.ListN.{length, getD, set}
 use lib.Seq.{paste}
-use Rattle.number.specs.Limits.{rules, treeNodes, pool, pairs}
+use Rattle.number.specs.Limits.{rules, treeNodes, pool}
 use Rattle.term.specs.Cells.{Sound}
 use Rattle.pool.specs.Pooled.{termsOf, Pool, Pooled}
 use Rattle.pool.specs.Index.{Indexed}
@@ -14,7 +14,7 @@ use Rattle.walk.specs.Vectors.{derived}
 use Rattle.walk.specs.Vectors.Vector.{TooLong, Terms}
 use Rattle.walk.specs.Parts.{withVector}
 use Rattle.vector.specs.declared.Derived.{Derived}
-use Rattle.vector.specs.Layout.{nothingCell, vectorsAt, sheetsAt, parentsAt, bytesAt, workLength}
+use Rattle.vector.specs.Layout.{items, nothingCell, vectorsAt, sheetsAt, parentsAt, bytesAt, workLength}
 use Rattle.vector.specs.Vectors.{vectorOf, Numbers}
 use Rattle.vector.specs.Memory.{numbersAt, Shaped}
 
@@ -26,7 +26,7 @@ pub record Tells (x y : List ℕ) (r : Bool) : Type 0 where
 -- item k of the work area
 pub record Within (s : List ℕ) (k : ℕ) : Type 0 where
   pub long : workLength ≤ length s
-  pub few : k < pairs
+  pub few : k < items
 
 -- the first n terms of a vector can be read
 pub record Reads (s : List ℕ) (n : ℕ) (v : List ℕ) : Type 0 where

@@ -3,8 +3,8 @@
 ghost use mathlib.Core.Path.{_≡_};
 ghost use Prim.Native.Nat.{_≤_};
 ghost use lib.ListN.{length, replicate};
-ghost use Rattle.vector.specs.Layout.{workLength};
-ghost use Rattle.number.specs.Limits.{pairs, lastByte};
+ghost use Rattle.vector.specs.Layout.{items, workLength};
+ghost use Rattle.number.specs.Limits.{lastByte};
 ghost use Rattle.meaning.specs.Rules.{label};
 ghost use Rattle.meaning.specs.Edges.{nextEdgeAll};
 ghost use Rattle.vector.specs.Vectors.{vectorOf};
@@ -163,7 +163,7 @@ fn is_pair(cells: &[u64], k: usize, sheet: usize, v: Vector) -> bool
 // The first of the items below `count` with this sheet state and this vector, or `count` if there is none.
 pub fn find(cells: &[u64], count: usize, sheet: usize, v: Vector) -> usize
     requires { ⌜ workLength ≤ length (now cells) ⌝ }
-    requires { ⌜ count ≤ pairs ⌝ }
+    requires { ⌜ count ≤ items ⌝ }
     ensures { λ r. ⌜ Finds (now (cells .entry)) count sheet (v .at) r ⌝ }
 {
     let mut k: usize = 0;

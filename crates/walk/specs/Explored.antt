@@ -19,7 +19,7 @@ use Rattle.walk.specs.Walk.{Item, none, Held, nothingHeld, numberIn, Ste
 use Rattle.walk.specs.Walk.Step.{stopped, reached}
 use Rattle.walk.specs.Walk.Walked.{halted, walked}
 use Rattle.walk.specs.StepLaws.{item, count, Came, came}
-use Rattle.walk.specs.StepLaws.Came.{held, over, new}
+use Rattle.walk.specs.StepLaws.Came.{held, full, over, new}
 use Rattle.walk.specs.WalkLaws.{Led, Good, Leads, Extends, Rows, rows-good, target, no-walk, reach-more, derive-more}
 use Rattle.walk.specs.Texts.{Sooner, NotLater}
 use Rattle.walk.specs.Texts.NotLater.{equal, sooner}
@@ -40,6 +40,7 @@ good-first way rs v e l = record {
   few = l;
   begins = refl;
   led = go;
+  short = short;
   rising = λ j k m n. absurd (omega arith);
   once = λ j k m n. absurd (omega arith);
 }
@@ -47,6 +48,10 @@ good-first way rs v e l = record {
     go : (k : ℕ) → k < 1 → Led way rs (item (added nothingHeld (record { sheet = 0; vector = v; text = [] })) k)
     go zero m = record { sheet-is = refl; vector-is = e; text-is = λ i b. absurd (omega arith) }
     go (suc k) m = absurd (omega arith)
+
+    short : (k : ℕ) → k < 1 → length (getD (record { sheet = 0; vector = v; text = [] } ∷ []) k none .text) ≤ k
+    short zero m = omega arith
+    short (suc k) m = absurd (omega arith)
 
 pub ahead-first : (v : List Re) (k : ℕ) → k < 1 → Sooner (getD (record { sheet = 0; vector = v; text = [] } ∷ []) k none .text) ([] ++ (0 ∷ []))
 ahead-first v zero l = empty-first [] 0
@@ -63,8 +68,9 @@ module _ (way : Way) (rs : List Re) where
   begun : (v : List Re) → v ≡ map normal rs → {s : Step} → Came way 0 nothingHeld (record { sheet = 0; vector = v; text = [] }) s
       → (h : Held) (js : List ℕ) → onFrom way s ≡ walked h js → Explored way rs h js
   begun v e (held j l p n) h js d = absurd (omega arith)
-  begun v e (over r n) h js d = absurd (no-walk d)
-  begun v e (new l n) h js d =
+  begun v e (full n l) h js d = absurd (no-walk d)
+  begun v e (over n l) h js d = absurd (no-walk d)
+  begun v e (new n l p) h js d =
       let h₀ = added nothingHeld (record { sheet = 0; vector = v; text = [] }) in
       explored-rows h js h₀ (rows-good way rs (way .limit) 0 h₀ (good-first way rs v e l) (omega arith) (omega arith) (λ _. ahead-first v) h js d)
 
@@ -85,32 +91,34 @@ pub record Arrived (way : Way) (rs : List Re) (h : Held) (w : Text) (j : ℕ) : 
   pub vector-is : item h j .vector ≡ deriveBy (start rs) w
   pub not-later : NotLater (item h j .text) w
 
-bytes-tail : (c : ℕ) (w : Text) → Bytes (c ∷ w) → Bytes w
+pub bytes-tail : (c : ℕ) (w : Text) → Bytes (c ∷ w) → Bytes w
 bytes-tail c w b i l = b (suc i) (omega arith)
 
-module _ (way : Way) (rs : List Re) (h : Held) (js : List ℕ) (x : Explored way rs h js) where
-  arrive-one : (u : Text) (c i : ℕ) → c < bytes → Arrived way rs h u i → Arrived way rs h (u ++ (c ∷ [])) (target js i c)
-  arrive-one u c i b a =
-      let l = x .leads i c (a .inside) b in
-      record {
-        inside = l .inside;
-        sheet-is = l .sheet-on ∙ ap (λ (s : ℕ). way .go s c) (a .sheet-is) ∙ sym (reach-more (way .go) 0 u c);
-        vector-is = l .vector-on ∙ ap (deriveAll c) (a .vector-is) ∙ sym (derive-more (start rs) u c);
-        not-later = not-later-trans (l .not-later) (not-later-snoc c (a .not-later));
-      }
-
-  arrive-on : (w u : Text) (i : ℕ) → Bytes w → Arrived way rs h u i → Arrived way rs h (u ++ w) (reach (target js) i w)
-  arrive-on [] u i b a = rw (append-nil u) a
-  arrive-on (c ∷ w) u i b a =
-      rw (append-assoc u (c ∷ []) w) at (arrive-on w (u ++ (c ∷ [])) (target js i c) (bytes-tail c w b) (arrive-one u c i (b 0 (omega arith)) a))
-
-  pub arrived : (w : Text) → Bytes w → Arrived way rs h w (reach (target js) 0 w)
-  arrived w b =
-      let g = x .good in
+module _ (way : Way) (rs : List Re) (h : Held) where
+  pub first-arrived : Good way rs h → Arrived way rs h [] 0
+  first-arrived g =
       let z = g .led 0 (g .some) in
-      arrive-on w [] 0 b (record {
+      record {
         inside = g .some;
         sheet-is = z .sheet-is ∙ ap (reach (way .go) 0) (g .begins);
         vector-is = z .vector-is ∙ ap (deriveBy (start rs)) (g .begins);
         not-later = equal (g .begins);
-      })
+      }
+
+  pub arrive-one : (u : Text) (c i j : ℕ) → Arrived way rs h u i → Leads way h i c j → Arrived way rs h (u ++ (c ∷ [])) j
+  arrive-one u c i j a l = record {
+    inside = l .inside;
+    sheet-is = l .sheet-on ∙ ap (λ (s : ℕ). way .go s c) (a .sheet-is) ∙ sym (reach-more (way .go) 0 u c);
+    vector-is = l .vector-on ∙ ap (deriveAll c) (a .vector-is) ∙ sym (derive-more (start rs) u c);
+    not-later = not-later-trans (l .not-later) (not-later-snoc c (a .not-later));
+  }
+
+module _ (way : Way) (rs : List Re) (h : Held) (js : List ℕ) (x : Explored way rs h js) where
+  arrive-on : (w u : Text) (i : ℕ) → Bytes w → Arrived way rs h u i → Arrived way rs h (u ++ w) (reach (target js) i w)
+  arrive-on [] u i b a = rw (append-nil u) a
+  arrive-on (c ∷ w) u i b a =
+      rw (append-assoc u (c ∷ []) w) at (arrive-on w (u ++ (c ∷ [])) (target js i c) (bytes-tail c w b)
+      (arrive-one way rs h u c i (target js i c) a (x .leads i c (a .inside) (b 0 (omega arith)))))
+
+  pub arrived : (w : Text) → Bytes w → Arrived way rs h w (reach (target js) 0 w)
+  arrived w b = arrive-on w [] 0 b (first-arrived way rs h (x .good))

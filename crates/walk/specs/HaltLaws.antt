@@ -1,90 +1,188 @@
--- A walk that is refused has met one of its limits: Long, Pool, or the limit of items, at an item that it was leaving.
--- So whatever rests on a walk declines only there.
-use Prim.Native.Nat.{ℕ, zero, suc}
-use mathlib.Core.Path.{_≡_, refl, sym, subst}
-use mathlib.Core.Bool.{Bool, true, false, cond}
-use mathlib.Core.List.{List, [], _∷_}
+-- The walk while it goes on: what it holds when item i is left by byte c, with the rows before it done.
+-- A walk that is refused has met one of its limits there: Long, the limit of items, or Pool; so whatever rests on it declines only there.
+use Prim.Native.Nat.{ℕ, zero, suc, _<_, _≤_}
+use mathlib.Core.Path.{_≡_, refl, sym, ap, subst, _∙_}
+use mathlib.Core.List.{List, [], _∷_, _++_, append-assoc, append-nil, map}
 use native.Mathlib.Omega.{arith}
-use lib.Dec.{ltb, leb}
+use native.Mathlib.Decide.{decLt}
 use lib.ListN.{length}
 use Rattle.number.specs.declared.Refusal.{Refusal}
 use Rattle.number.specs.declared.Refusal.the-variants.{Long, Pool}
 use Rattle.number.specs.Limits.{bytes, pool}
-use Rattle.meaning.specs.Re.{Re}
+use Rattle.number.specs.Numbers.{Bytes}
+use Rattle.meaning.specs.Re.{Re, Text}
+use Rattle.meaning.specs.Derive.{deriv}
+use Rattle.meaning.specs.Rules.{start}
 use Rattle.walk.specs.Vectors.{Vector, derived, normalised}
 use Rattle.walk.specs.Vectors.Vector.{TooLong, Terms}
-use Rattle.walk.specs.Walk.{Item, Held, nothingHeld, numberIn, Step, Way, added, come, comeBy, step, Walked, prepend, row, rows, beginBy, onFrom, walkFrom}
+use Rattle.walk.specs.VectorLaws.{Is, derived-is, normalised-is}
+use Rattle.walk.specs.Parts.{withVector}
+use Rattle.walk.specs.Walk.{Item, Held, nothingHeld, Step, Way, added, come, after, comeBy, step, beginBy, walkFrom}
 use Rattle.walk.specs.Walk.Step.{stopped, reached}
-use Rattle.walk.specs.Walk.Walked.{halted, walked}
-use Rattle.walk.specs.StepLaws.{item, count}
+use Rattle.walk.specs.StepLaws.{item, count, Unmet, Came, came, no-reach, step-moved, step-fits}
+use Rattle.walk.specs.StepLaws.Came.{held, full, over, new}
+use Rattle.walk.specs.WalkLaws.{Led, Good, Ahead, Leads, leads-on, led-next, Stepped, stepped, ahead-next}
+use Rattle.walk.specs.Explored.{good-first, ahead-first, Arrived, first-arrived, arrive-one, bytes-tail}
+use Rattle.walk.specs.KeepLaws.{StepIs, WalkIs, walk-is, Pooled, pooled-none, pooled-added, pooled-step}
+use Rattle.walk.specs.Texts.{Sooner, NotLater}
+use Rattle.walk.specs.TextLaws.{sooner-self, sooner-trans, not-later-sooner, not-later-front}
 
--- a limit that was met, at item i
-pub data Met (way : Way) : Refusal → Type 0 where
-  long : (i : ℕ) → Met way (Long i)
-  pool-full : (i : ℕ) → Met way (Pool i)
-  items-full : (i : ℕ) → Met way (way .full i)
+stopped-refusal : {r q : Refusal} → stopped r ≡ stopped q → r ≡ q
+stopped-refusal e = cc
 
--- what a step or a walk comes to, if it is a refusal
-abbrev StepMet : Way → Step → Type 0
-StepMet way (stopped r) = Met way r
-StepMet way (reached h j) = Unit
+-- ---- while the walk goes on
 
-abbrev pub WalkMet : Way → Walked → Type 0
-WalkMet way (halted r) = Met way r
-WalkMet way (walked h js) = Unit
+-- item i is being left, by byte c next; the rows before it are done, and the steps of its own row by lower bytes
+pub record Underway (way : Way) (rs : List Re) (i c : ℕ) (h : Held) : Type 0 where
+  pub good : Good way rs h
+  pub pooled : Pooled h
+  pub ahead : i < count h → Ahead h i c
+  pub done : (j d : ℕ) → j < i → d < bytes → (k : ℕ) × Leads way h j d k
+  pub row-done : (d : ℕ) → d < c → (k : ℕ) × Leads way h i d k
 
-module _ (way : Way) where
-  come-met : (i : ℕ) (h : Held) (x : Item) → StepMet way (come way i h x)
-  unfolding come
-  come-met i h x = go (ltb (numberIn (h .items) x) (count h)) (leb (way .limit) (count h)) (ltb pool (length (added h x .pool)))
-    where
-      go : (b d f : Bool) → StepMet way (cond b (reached h (numberIn (h .items) x)) (cond d (stopped (way .full i)) (cond f (stopped (Pool i)) (reached (added h x) (count h)))))
-      go true d f = tt
-      go false true f = items-full i
-      go false false true = pool-full i
-      go false false false = tt
+module _ (way : Way) (rs : List Re) where
+  underway-step : (i c : ℕ) (h h′ : Held) (j : ℕ) → i < count h → Underway way rs i c h → Pooled h′ → Stepped way rs i c h h′ j → Underway way rs i (suc c) h′
+  underway-step i c h h′ j l u p s = record {
+    good = s .good;
+    pooled = p;
+    ahead = λ k. s .ahead;
+    done = λ m d n b. let (k, q) = u .done m d n b in (k, leads-on way m d k (s .extends) (omega arith) q);
+    row-done = λ d n. elim (decLt d c) [
+      | yes m ↦ let (k, q) = u .row-done d m in (k, leads-on way i d k (s .extends) l q)
+      | no f ↦ let e : d ≡ c = omega arith in (j, rw e (s .leads))
+    ];
+  }
 
-  step-met : (i : ℕ) (h : Held) (c : ℕ) → StepMet way (step way i h c)
-  unfolding step
-  step-met i h c = go (derived c (item h i .vector))
-    where
-      go : (v : Vector) → StepMet way (comeBy way i h c v)
-      go TooLong = long i
-      go (Terms v) = come-met i h _
+  underway-turn : (i : ℕ) (h : Held) → Underway way rs i bytes h → Underway way rs (suc i) 0 h
+  underway-turn i h u = record {
+    good = u .good;
+    pooled = u .pooled;
+    ahead = λ l. ahead-next way rs i h (u .good) (u .ahead (omega arith)) l;
+    done = λ j d n b. elim (decLt j i) [ yes m ↦ u .done j d m b | no f ↦ let e : j ≡ i = omega arith in rw e (u .row-done d b) ];
+    row-done = λ d n. absurd (omega arith);
+  }
 
-  prepend-met : (js : List ℕ) (w : Walked) → WalkMet way w → WalkMet way (prepend js w)
-  prepend-met js (halted r) m = m
-  prepend-met js (walked h ks) m = tt
+  -- every text that is sooner than the item's own leads to an item before it
+  module _ (i c : ℕ) (h : Held) (u : Underway way rs i c h) (inside : i < count h) where
+    Earlier : Text → Type 0
+    Earlier w = (k : ℕ) × (k < i) × Arrived way rs h w k
 
-  row-met : (i k c : ℕ) (h : Held) → WalkMet way (row way i k c h)
-  unfolding row
-  row-met i zero c h = tt
-  row-met i (suc k) c h = go (step way i h c) (step-met i h c) (row-met i k (suc c))
-    where
-      go : (s : Step) → StepMet way s → ((g : Held) → WalkMet way (row way i k (suc c) g))
-          → WalkMet way (elim s as (λ _. Walked) [ stopped r ↦ halted r | reached g j ↦ prepend (j ∷ []) (row way i k (suc c) g) ])
-      go (stopped r) m f = m
-      go (reached g j) m f = prepend-met (j ∷ []) (row way i k (suc c) g) (f g)
+    earlier : (k : ℕ) → k < count h → Sooner (item h k .text) (item h i .text) → k < i
+    earlier k l s =
+        elim (decLt k i) [
+          | yes m ↦ m
+          | no f ↦ elim (decLt i k) [
+            | yes m ↦ absurd (sooner-self (sooner-trans (u .good .rising i k m l) s))
+            | no g ↦ let e : k ≡ i = omega arith in absurd (sooner-self (subst (λ (x : ℕ). Sooner (item h x .text) (item h i .text)) e s))
+          ]
+        ]
 
-  rows-met : (k i : ℕ) (h : Held) → WalkMet way (rows way k i h)
-  unfolding rows
-  rows-met zero i h = tt
-  rows-met (suc k) i h = go (ltb i (count h)) (row way i bytes 0 h) (row-met i bytes 0 h) (rows-met k (suc i))
-    where
-      go : (b : Bool) (w : Walked) → WalkMet way w → ((g : Held) → WalkMet way (rows way k (suc i) g))
-          → WalkMet way (cond b (elim w as (λ _. Walked) [ halted r ↦ halted r | walked g js ↦ prepend js (rows way k (suc i) g) ]) (walked h []))
-      go true (halted r) m f = m
-      go true (walked g js) m f = prepend-met js (rows way k (suc i) g) (f g)
-      go false w m f = tt
+    earlier-one : (v : Text) (d : ℕ) → d < bytes → Sooner (v ++ (d ∷ [])) (item h i .text) → Earlier v → Earlier (v ++ (d ∷ []))
+    unfolding Earlier
+    earlier-one v d b s (k, l, a) =
+        let (j, leads) = u .done k d l b in
+        let z = arrive-one way rs h v d k j a leads in
+        (j, earlier j (z .inside) (not-later-sooner (z .not-later) s), z)
 
-  on-met : (s : Step) → StepMet way s → WalkMet way (onFrom way s)
-  on-met (stopped r) m = m
-  on-met (reached h j) m = rows-met (way .limit) 0 h
+    earlier-on : (w v : Text) → Bytes w → Sooner (v ++ w) (item h i .text) → Earlier v → Earlier (v ++ w)
+    unfolding Earlier
+    earlier-on [] v b s a = rw (append-nil v) a
+    earlier-on (d ∷ w) v b s a =
+        let z : Sooner ((v ++ (d ∷ [])) ++ w) (item h i .text) = rw (append-assoc v (d ∷ []) w) s in
+        rw (append-assoc v (d ∷ []) w) at (earlier-on w (v ++ (d ∷ [])) (bytes-tail d w b) z
+        (earlier-one v d (b 0 (omega arith)) (not-later-sooner (not-later-front (v ++ (d ∷ [])) w) z) a))
 
-  pub walk-met : (rs : List Re) → WalkMet way (walkFrom way rs)
-  unfolding walkFrom
-  walk-met rs = go (normalised rs)
-    where
-      go : (v : Vector) → WalkMet way (onFrom way (beginBy way v))
-      go TooLong = long 0
-      go (Terms v) = on-met (come way 0 nothingHeld _) (come-met 0 nothingHeld _)
+    pub arrived-before : (w : Text) → Bytes w → Sooner w (item h i .text) → (k : ℕ) × (k < i) × Arrived way rs h w k
+    unfolding Earlier
+    arrived-before w b s =
+        let z = first-arrived way rs h (u .good) in
+        earlier-on w [] b s (0, earlier 0 (z .inside) (not-later-sooner (z .not-later) (not-later-sooner (not-later-front [] w) s)), z)
+
+-- ---- the limit that a refused walk met
+
+-- a step was tried from an item, with this number told for it
+pub record Tried (way : Way) (rs : List Re) (place : ℕ) : Type 0 where
+  pub i : ℕ
+  pub c : ℕ
+  pub h : Held
+  pub underway : Underway way rs i c h
+  pub inside : i < count h
+  pub byte : c < bytes
+  pub is-place : place ≡ way .told (h .items) i
+
+-- the pair that the step led to, which no item is for
+pub record Beyond {way : Way} {rs : List Re} {place : ℕ} (x : Tried way rs place) : Type 0 where
+  pub y : Item
+  pub led : Led way rs y
+  pub text-is : y .text ≡ item (x .h) (x .i) .text ++ (x .c ∷ [])
+  pub unmet : Unmet (x .h) y
+
+pub data Met (way : Way) (rs : List Re) : Refusal → Type 0 where
+  start-long : normalised rs ≡ TooLong → Met way rs (Long 0)
+  start-over : pool < length (withVector [] (start rs)) → Met way rs (Pool 0)
+  long : (place : ℕ) (x : Tried way rs place) → derived (x .c) (item (x .h) (x .i) .vector) ≡ TooLong → Met way rs (Long place)
+  items-full : (place : ℕ) (x : Tried way rs place) → Beyond x → way .limit ≤ count (x .h) → Met way rs (way .full place)
+  pool-full : (place : ℕ) (x : Tried way rs place) (z : Beyond x) → pool < length (added (x .h) (z .y) .pool) → Met way rs (Pool place)
+
+module _ (way : Way) (rs : List Re) where
+  module _ (i c : ℕ) (h : Held) (l : i < count h) (b : c < bytes) (u : Underway way rs i c h) where
+    abbrev place : ℕ
+    place = way .told (h .items) i
+
+    tried : Tried way rs place
+    tried = record { i = i; c = c; h = h; underway = u; inside = l; byte = b; is-place = refl }
+
+    -- the pair that the step led to, where no item is for it
+    beyond : (v : List Re) → v ≡ map (deriv c) (item h i .vector) → Unmet h (after way (item h i) c v) → Beyond tried
+    unfolding tried
+    beyond v e n =
+        let y = after way (item h i) c v in
+        record { y = y; led = led-next way rs (item h i) y c (u .good .led i l) b refl e refl; text-is = refl; unmet = n }
+
+    stopped-by : (v : List Re) → v ≡ map (deriv c) (item h i .vector) → {s : Step} → Came way place h (after way (item h i) c v) s
+        → (r : Refusal) → s ≡ stopped r → Met way rs r
+    unfolding tried beyond
+    stopped-by v d (held j m p n) r e = absurd (no-reach (sym e))
+    stopped-by v d (full n m) r e = subst (Met way rs) (stopped-refusal e) (items-full place tried (beyond v d n) m)
+    stopped-by v d (over n m) r e = subst (Met way rs) (stopped-refusal e) (pool-full place tried (beyond v d n) m)
+    stopped-by v d (new n m p) r e = absurd (no-reach (sym e))
+
+    step-stops : (r : Refusal) → step way i h c ≡ stopped r → Met way rs r
+    unfolding step tried
+    step-stops r e = go (derived c (item h i .vector)) refl (derived-is c (item h i .vector)) e
+      where
+        go : (v : Vector) → derived c (item h i .vector) ≡ v → Is v (map (deriv c) (item h i .vector)) → comeBy way i h c v ≡ stopped r → Met way rs r
+        go TooLong d q f = subst (Met way rs) (stopped-refusal f) (long place tried d)
+        go (Terms v) d q f = stopped-by v q (came way place h (after way (item h i) c v)) r f
+
+    step-met : StepIs (Underway way rs i (suc c)) (Met way rs) (step way i h c)
+    step-met = go (step way i h c) refl
+      where
+        go : (s : Step) → step way i h c ≡ s → StepIs (Underway way rs i (suc c)) (Met way rs) s
+        go (stopped r) e = step-stops r e
+        go (reached g j) e =
+            underway-step way rs i c h g j l u (subst (StepIs Pooled (λ r. Unit {0})) e (pooled-step way i c h l b (u .pooled)))
+            (stepped way rs i c h (u .good) l b (u .ahead l) (step-fits way i h c g j e) (step-moved way i h c g j e))
+
+  -- vector 0
+  first-met : 0 < way .limit → (v : List Re) → v ≡ start rs → {s : Step} → Came way 0 nothingHeld (record { sheet = 0; vector = v; text = [] }) s
+      → StepIs (Underway way rs 0 0) (Met way rs) s
+  first-met some v e (held j l p n) = absurd (omega arith)
+  first-met some v e (full n l) = absurd (omega arith)
+  first-met some v e (over n l) = start-over (rw (← e) l)
+  first-met some v e (new n l p) = record {
+    good = good-first way rs v e l;
+    pooled = pooled-added nothingHeld (record { sheet = 0; vector = v; text = [] }) pooled-none p;
+    ahead = λ k. ahead-first v;
+    done = λ j d k. absurd (omega arith);
+    row-done = λ d k. absurd (omega arith);
+  }
+
+  begin-met : 0 < way .limit → (v : Vector) → normalised rs ≡ v → Is v (start rs) → StepIs (Underway way rs 0 0) (Met way rs) (beginBy way v)
+  begin-met some TooLong d e = start-long d
+  begin-met some (Terms v) d e = first-met some v e (came way 0 nothingHeld (record { sheet = 0; vector = v; text = [] }))
+
+  pub walk-met : 0 < way .limit → WalkIs (λ h. Unit {0}) (Met way rs) (walkFrom way rs)
+  walk-met some =
+      walk-is way (Underway way rs) (Met way rs) step-met (underway-turn way rs) (λ h. Unit {0}) (λ i h u. tt) rs
+      (begin-met some (normalised rs) refl (normalised-is rs))

@@ -1,5 +1,5 @@
 -- The walk over vectors, which building and comparing share. Definitions, in reading order: Vectors, Parts, Walk, Texts; the other files prove things of these.
--- Main gathers the theorems that the layers above cite.
+-- Explored is what a finished walk has found, HaltLaws what a refused one met.
 pub mod Vectors
 pub mod Parts
 pub mod Walk
@@ -11,4 +11,6 @@ pub mod StepLaws
 pub mod WalkLaws
 pub mod Explored
 pub mod RunLaws
+pub mod CountLaws
+pub mod KeepLaws
 pub mod HaltLaws

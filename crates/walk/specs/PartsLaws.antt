@@ -1,5 +1,5 @@
 -- The pool holds exactly the parts of what was put into it, each once; what it holds already adds nothing.
--- Part and Once say what that means; building and comparing cite these laws for the terms of their held vectors.
+-- Part and Once of Parts say what that means; building and comparing cite these laws for the terms of their held vectors.
 use Prim.Native.Nat.{ℕ, zero, suc, _+_, _<_, _≤_}
 use mathlib.Core.Path.{_≡_, refl, sym, subst, _∙_}
 use mathlib.Core.Bool.{Bool, true, false}
@@ -14,33 +14,9 @@ use Rattle.meaning.specs.Re.Re.{Nothing, Empty, Range, Cat, Alt, Star}
 use Rattle.meaning.specs.Tests.{clash, or-true, true-or, or-of-true}
 use Rattle.walk.specs.Vectors.{sameTerm}
 use Rattle.walk.specs.VectorLaws.{term-same, term-self}
-use Rattle.walk.specs.Parts.{holds, withTerm, withParts, withVector}
-
--- x is r, or a part of one of its children
-pub data Part (x : Re) : Re → Type 0 where
-  whole : {r : Re} → x ≡ r → Part x r
-  cat-left : {a b : Re} → Part x a → Part x (Cat a b)
-  cat-right : {a b : Re} → Part x b → Part x (Cat a b)
-  alt-left : {a b : Re} → Part x a → Part x (Alt a b)
-  alt-right : {a b : Re} → Part x b → Part x (Alt a b)
-  star-in : {a : Re} → Part x a → Part x (Star a)
-
--- x is a part of one of the components
-pub data PartOf (x : Re) : List Re → Type 0 where
-  here : {r : Re} {rs : List Re} → Part x r → PartOf x (r ∷ rs)
-  later : {r : Re} {rs : List Re} → PartOf x rs → PartOf x (r ∷ rs)
-
--- a pool holds it
-abbrev pub Held : List Re → Re → Type 0
-Held p x = holds p x ≡ true
-
--- no term stands in it twice
-pub record Once (p : List Re) : Type 0 where
-  pub apart : (i j : ℕ) → i < j → j < length p → getD p i Nothing ≡ getD p j Nothing → ⊥
-
--- with a term it holds the term's parts
-pub record Closed (p : List Re) : Type 0 where
-  pub parts : (x r : Re) → Held p r → Part x r → Held p x
+use Rattle.walk.specs.Parts.{holds, withTerm, withParts, withVector, Part, PartOf, Held, Once, Closed}
+use Rattle.walk.specs.Parts.Part.{whole, cat-left, cat-right, alt-left, alt-right, star-in}
+use Rattle.walk.specs.Parts.PartOf.{here, later}
 
 pub part-trans : {x y r : Re} → Part x y → Part y r → Part x r
 part-trans {x} h (whole e) = subst (Part x) e h

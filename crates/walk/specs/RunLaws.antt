@@ -19,7 +19,7 @@ use Rattle.walk.specs.Walk.{Item, none, Held, samePair, numberIn, Step, 
 use Rattle.walk.specs.Walk.Step.{stopped, reached}
 use Rattle.walk.specs.Walk.Walked.{halted, walked}
 use Rattle.walk.specs.StepLaws.{item, count, Pair, same-pair, Came, came, reached-held, reached-number, no-reach}
-use Rattle.walk.specs.StepLaws.Came.{held, over, new}
+use Rattle.walk.specs.StepLaws.Came.{held, full, over, new}
 
 -- ---- the vector after another byte of the run is the same
 
@@ -56,24 +56,26 @@ number-last (y ∷ ys) x e = go (samePair y x) (number-last ys x) e
 
 -- ---- coming to the same pair once more
 
-module _ (way : Way) (i : ℕ) (h : Held) (x z : Item) (p : x .sheet ≡ z .sheet) (q : x .vector ≡ z .vector) where
-  come-once-more : {s : Step} → Came way i h x s → (h₁ : Held) (j : ℕ) → s ≡ reached h₁ j → come way i h₁ z ≡ reached h₁ j
+module _ (way : Way) (place place₁ : ℕ) (h : Held) (x z : Item) (p : x .sheet ≡ z .sheet) (q : x .vector ≡ z .vector) where
+  come-once-more : {s : Step} → Came way place h x s → (h₁ : Held) (j : ℕ) → s ≡ reached h₁ j → come way place₁ h₁ z ≡ reached h₁ j
   unfolding come
   come-once-more (held k l m n) h₁ j e =
       let o : numberIn (h .items) z ≡ k = sym (number-alike (h .items) x z p q) ∙ sym n in
-      subst (λ (g : Held). come way i g z ≡ reached g j) (reached-held e)
+      subst (λ (g : Held). come way place₁ g z ≡ reached g j) (reached-held e)
       (rw (o, lt-ltb k (count h) l) (ap (reached h) (reached-number e)))
-  come-once-more (over r n) h₁ j e = absurd (no-reach e)
-  come-once-more (new l n) h₁ j e =
+  come-once-more (full n l) h₁ j e = absurd (no-reach e)
+  come-once-more (over n l) h₁ j e = absurd (no-reach e)
+  come-once-more (new n l u) h₁ j e =
       let o : numberIn (added h x .items) z ≡ count h = sym (number-alike (added h x .items) x z p q) ∙ number-last (h .items) x n in
       let m : count h < count (added h x) = omega (arith, length-append (h .items) (x ∷ [])) in
-      subst (λ (g : Held). come way i g z ≡ reached g j) (reached-held e)
+      subst (λ (g : Held). come way place₁ g z ≡ reached g j) (reached-held e)
       (rw (o, lt-ltb (count h) (count (added h x)) m) (ap (reached (added h x)) (reached-number e)))
 
-came-item : (way : Way) (i : ℕ) (h : Held) (x : Item) {s : Step} → Came way i h x s → (h₁ : Held) (j : ℕ) → s ≡ reached h₁ j → i < count h → item h₁ i ≡ item h i
-came-item way i h x (held k l m n) h₁ j e f = ap (λ (g : Held). item g i) (sym (reached-held e))
-came-item way i h x (over r n) h₁ j e f = absurd (no-reach e)
-came-item way i h x (new l n) h₁ j e f = ap (λ (g : Held). item g i) (sym (reached-held e)) ∙ List·getD-append (h .items) (x ∷ []) none i f
+came-item : (way : Way) (place i : ℕ) (h : Held) (x : Item) {s : Step} → Came way place h x s → (h₁ : Held) (j : ℕ) → s ≡ reached h₁ j → i < count h → item h₁ i ≡ item h i
+came-item way place i h x (held k l m n) h₁ j e f = ap (λ (g : Held). item g i) (sym (reached-held e))
+came-item way place i h x (full n l) h₁ j e f = absurd (no-reach e)
+came-item way place i h x (over n l) h₁ j e f = absurd (no-reach e)
+came-item way place i h x (new n l u) h₁ j e f = ap (λ (g : Held). item g i) (sym (reached-held e)) ∙ List·getD-append (h .items) (x ∷ []) none i f
 
 -- ---- one more byte of the run
 
@@ -87,11 +89,11 @@ module _ (way : Way) (i c d : ℕ) where
       go TooLong o f = absurd (no-reach f)
       go (Terms v) o f =
           let x = after way (item h i) c v in
-          let s : item h₁ i ≡ item h i = came-item way i h x (came way i h x) h₁ j f l in
+          let s : item h₁ i ≡ item h i = came-item way (way .told (h .items) i) i h x (came way (way .told (h .items) i) h x) h₁ j f l in
           let w : derived d (item h₁ i .vector) ≡ Terms v = ap (λ (y : Item). derived d (y .vector)) s ∙ derived-edge c d (item h i .vector) m n ∙ o in
           let z = after way (item h₁ i) d v in
           let p : x .sheet ≡ z .sheet = g ∙ ap (λ (y : Item). way .go (y .sheet) d) (sym s) in
-          ap (comeBy way i h₁ d) w ∙ come-once-more way i h x z p refl (came way i h x) h₁ j f
+          ap (comeBy way i h₁ d) w ∙ come-once-more way (way .told (h .items) i) (way .told (h₁ .items) i) h x z p refl (came way (way .told (h .items) i) h x) h₁ j f
 
 -- ---- a whole run
 

@@ -1,11 +1,14 @@
 -- Laws of the order of texts: it is transitive, nothing is sooner than itself, and a byte more at the end keeps it.
 -- The walk finds its items by texts that rise in this order.
-use Prim.Native.Nat.{ℕ, suc, _+_, _<_}
+use Prim.Native.Nat.{ℕ, zero, suc, _+_, _<_, _≤_}
 use mathlib.Core.Path.{_≡_, refl, sym, ap, subst, _∙_}
-use mathlib.Core.List.{List, [], _∷_, _++_}
+use mathlib.Core.List.{List, [], _∷_, _++_, append-nil}
+use mathlib.Core.Logic.{_⊎_, inl, inr}
 use native.Mathlib.Omega.{arith}
+use native.Mathlib.Decide.{decLt}
 use native.Mathlib.Nat.{lt-trans}
-use lib.ListN.{length, length-append}
+use lib.ListN.{length, take, drop, length-append, length-take, length-drop}
+use lib.Seq.{take-all}
 use Rattle.meaning.specs.Re.{Text}
 use Rattle.walk.specs.Texts.{Lower, Sooner, NotLater}
 use Rattle.walk.specs.Texts.Lower.{here, later}
@@ -73,3 +76,75 @@ sooner-last w {c} {d} h = lower (omega (arith, length-snoc w c, length-snoc w d)
 -- the empty text comes first
 pub empty-first : (w : Text) (c : ℕ) → Sooner [] (w ++ (c ∷ []))
 empty-first w c = shorter (omega (arith, length-snoc w c))
+
+-- the front of a text is not later than it
+pub not-later-front : (v w : Text) → NotLater v (v ++ w)
+not-later-front v [] = equal (sym (append-nil v))
+not-later-front v (c ∷ w) = sooner (shorter (omega (arith, length-append v (c ∷ w))))
+
+none-lower : {v w : Text} → Lower v w → 0 < length w
+none-lower (here h) = omega arith
+none-lower (later c l) = omega arith
+
+-- nothing is sooner than the empty text
+pub sooner-some : {v w : Text} → Sooner v w → 0 < length w
+sooner-some (shorter h) = omega arith
+sooner-some (lower e l) = none-lower l
+
+-- of two texts, one is not later than the other
+data Which (v w : Text) : Type 0 where
+  first : Lower v w → Which v w
+  same : v ≡ w → Which v w
+  second : Lower w v → Which v w
+
+which-more : (c : ℕ) {v w : Text} → Which v w → Which (c ∷ v) (c ∷ w)
+which-more c (first l) = first (later c l)
+which-more c (same e) = same (ap (λ (x : Text). c ∷ x) e)
+which-more c (second l) = second (later c l)
+
+which : (v w : Text) → length v ≡ length w → Which v w
+which [] [] e = same refl
+which [] (d ∷ w) e = absurd (omega arith)
+which (c ∷ v) [] e = absurd (omega arith)
+which (c ∷ v) (d ∷ w) e =
+    elim (decLt c d) [
+      | yes h ↦ first (here h)
+      | no f ↦ elim (decLt d c) [
+        | yes h ↦ second (here h)
+        | no g ↦
+            let z : c ≡ d = omega arith in
+            subst (λ (x : ℕ). Which (c ∷ v) (x ∷ w)) z (which-more c (which v w (omega arith)))
+      ]
+    ]
+
+pub not-later-or : (v w : Text) → NotLater v w ⊎ Sooner w v
+not-later-or v w =
+    elim (decLt (length v) (length w)) [
+      | yes h ↦ inl (sooner (shorter h))
+      | no f ↦ elim (decLt (length w) (length v)) [
+        | yes h ↦ inr (shorter h)
+        | no g ↦ let e : length v ≡ length w = omega arith in go e (which v w e)
+      ]
+    ]
+  where
+    go : length v ≡ length w → Which v w → NotLater v w ⊎ Sooner w v
+    go e (first l) = inl (sooner (lower e l))
+    go e (same z) = inl (equal z)
+    go e (second l) = inr (lower (sym e) l)
+
+-- a piece of a text is sooner than whatever the text is sooner than
+sooner-length : {v w : Text} → Sooner v w → length v ≤ length w
+sooner-length (shorter h) = omega arith
+sooner-length (lower e l) = omega arith
+
+pub sooner-drop : (n : ℕ) (v : Text) {w : Text} → Sooner v w → Sooner (drop n v) w
+sooner-drop zero v s = s
+sooner-drop (suc n) [] s = s
+sooner-drop (suc n) (c ∷ v) s = shorter (omega (arith, sooner-length s, length-drop n v))
+
+pub sooner-take : (m : ℕ) (v : Text) {w : Text} → Sooner v w → Sooner (take m v) w
+sooner-take m v {w} s =
+    elim (decLt m (length v)) [
+      | yes h ↦ shorter (omega (arith, sooner-length s, length-take m v))
+      | no f ↦ rw (take-all m v (omega arith)) s
+    ]

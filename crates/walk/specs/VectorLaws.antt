@@ -23,6 +23,9 @@ abbrev pub Is : Vector → List Re → Type 0
 Is TooLong rs = Unit
 Is (Terms v) rs = v ≡ rs
 
+pub no-terms : {v : List Re} → TooLong ≡ Terms v → ⊥
+no-terms e = let z : _≡_ {A = ℕ} 0 1 = cc in omega arith
+
 front-is : (f : Fit) (v : Vector) (r : Re) (rs : List Re) → ((x : Re) → f ≡ Fits x → x ≡ r) → Is v rs → Is (front f v) (r ∷ rs)
 front-is Long v r rs p q = tt
 front-is (Fits x) TooLong r rs p q = tt

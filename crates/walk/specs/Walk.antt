@@ -1,5 +1,5 @@
 -- The walk over pairs of a sheet state and a vector, items in the order found, bytes rising: building walks beside a sheet of one state.
--- One step, in its order: Long; for a new item the limit of items, with its refusal; then Pool. A place is the item being left.
+-- One step, in its order: Long; for a new item the limit of items, with its refusal; then Pool. A place is the number told for the item being left.
 use Prim.Native.Nat.{ℕ, zero, suc}
 use mathlib.Core.Bool.{Bool, true, false, cond, _&&_}
 use mathlib.Core.List.{List, [], _∷_, _++_}
@@ -44,21 +44,22 @@ pub data Step : Type 0 where
   stopped : Refusal → Step
   reached : Held → ℕ → Step
 
--- where a walk goes: how the sheet moves, how many items may be held, and the refusal of one more at a place
+-- where a walk goes: how the sheet moves, how many items may be held, the refusal of one more at a place, and the number that is told for an item
 pub record Way : Type 0 where
   pub go : ℕ → ℕ → ℕ
   pub limit : ℕ
   pub full : ℕ → Refusal
+  pub told : List Item → ℕ → ℕ
 
 abbrev pub added : Held → Item → Held
 added h x = record { items = h .items ++ (x ∷ []); pool = withVector (h .pool) (x .vector) }
 
--- a pair that was come to from item i: held already, or new
+-- a pair that was come to, with the place to tell: held already, or new
 unfoldable pub come : Way → ℕ → Held → Item → Step
-come way i h x =
+come way place h x =
     cond (ltb (numberIn (h .items) x) (length (h .items))) (reached h (numberIn (h .items) x))
-    (cond (leb (way .limit) (length (h .items))) (stopped (way .full i))
-    (cond (ltb pool (length (added h x .pool))) (stopped (Pool i))
+    (cond (leb (way .limit) (length (h .items))) (stopped (way .full place))
+    (cond (ltb pool (length (added h x .pool))) (stopped (Pool place))
     (reached (added h x) (length (h .items)))))
 
 -- the pair after byte c, from an item
@@ -66,8 +67,8 @@ abbrev pub after : Way → Item → ℕ → List Re → Item
 after way x c v = record { sheet = way .go (x .sheet) c; vector = v; text = x .text ++ (c ∷ []) }
 
 abbrev pub comeBy : Way → ℕ → Held → ℕ → Vector → Step
-comeBy way i h c TooLong = stopped (Long i)
-comeBy way i h c (Terms v) = come way i h (after way (getD (h .items) i none) c v)
+comeBy way i h c TooLong = stopped (Long (way .told (h .items) i))
+comeBy way i h c (Terms v) = come way (way .told (h .items) i) h (after way (getD (h .items) i none) c v)
 
 -- one step: from item i by byte c
 unfoldable pub step : Way → ℕ → Held → ℕ → Step

@@ -24,17 +24,13 @@ use Rattle.walk.specs.VectorLaws.{Is, normalised-is}
 use Rattle.walk.specs.Walk.{Item, none, Held, nothingHeld, numberIn, Step, Way, added, come, step, Walked, prepend, row, rows, beginBy, onFrom, walkFrom}
 use Rattle.walk.specs.Walk.Step.{stopped, reached}
 use Rattle.walk.specs.Walk.Walked.{halted, walked}
-use Rattle.walk.specs.StepLaws.{item, count, Pair, same-pair, Moved, Came, came, step-moved, number-after}
+use Rattle.walk.specs.StepLaws.{item, count, Pair, same-pair, added-old, added-new, added-count, each-added, pairs-added, Moved, step-moved, number-after, Fits, step-fits}
 use Rattle.walk.specs.StepLaws.Moved.{again, fresh}
-use Rattle.walk.specs.StepLaws.Came.{held, over, new}
 use Rattle.walk.specs.Texts.{Sooner, NotLater}
 use Rattle.walk.specs.Texts.NotLater.{equal, sooner}
 use Rattle.walk.specs.TextLaws.{sooner-trans, sooner-snoc, not-later-snoc, not-later-trans, sooner-last, empty-first, length-snoc}
 
--- ---- lists with one more at the end
-
-length-more : {A : Type 0} (xs : List A) (x : A) → length (xs ++ (x ∷ [])) ≡ suc (length xs)
-length-more xs x = let e = length-append xs (x ∷ []) in omega arith
+-- ---- texts with one byte more
 
 bytes-more : (w : Text) (c : ℕ) → Bytes w → c < bytes → Bytes (w ++ (c ∷ []))
 bytes-more w c b h i k =
@@ -66,6 +62,7 @@ pub record Good (way : Way) (rs : List Re) (h : Held) : Type 0 where
   pub few : count h ≤ way .limit
   pub begins : item h 0 .text ≡ []
   pub led : (k : ℕ) → k < count h → Led way rs (item h k)
+  pub short : (k : ℕ) → k < count h → length (item h k .text) ≤ k
   pub rising : (j k : ℕ) → j < k → k < count h → Sooner (item h j .text) (item h k .text)
   pub once : (j k : ℕ) → j < k → k < count h → Pair (item h j) (item h k) → ⊥
 
@@ -89,9 +86,10 @@ pub record Leads (way : Way) (h : Held) (i c j : ℕ) : Type 0 where
   pub inside : j < count h
   pub sheet-on : item h j .sheet ≡ way .go (item h i .sheet) c
   pub vector-on : item h j .vector ≡ deriveAll c (item h i .vector)
+  pub fits : Fits c (item h i .vector)
   pub not-later : NotLater (item h j .text) (item h i .text ++ (c ∷ []))
 
-leads-on : (way : Way) {h h′ : Held} (i c j : ℕ) → Extends h h′ → i < count h → Leads way h i c j → Leads way h′ i c j
+pub leads-on : (way : Way) {h h′ : Held} (i c j : ℕ) → Extends h h′ → i < count h → Leads way h i c j → Leads way h′ i c j
 leads-on way {h} {h′} i c j e k l =
     let p = e .same j (l .inside) in
     let q = e .same i k in
@@ -99,55 +97,32 @@ leads-on way {h} {h′} i c j e k l =
       inside = omega (arith, e .up, l .inside);
       sheet-on = rw (p, q) (l .sheet-on);
       vector-on = rw (p, q) (l .vector-on);
+      fits = rw q (l .fits);
       not-later = rw (p, q) (l .not-later);
     }
 
 -- ---- one item more
 
 module _ (way : Way) (rs : List Re) (h : Held) (y : Item) where
-  added-old : (k : ℕ) → k < count h → item (added h y) k ≡ item h k
-  added-old k l = List·getD-append (h .items) (y ∷ []) none k l
-
-  added-new : item (added h y) (count h) ≡ y
-  added-new = getD-append-seam (h .items) y [] none
-
-  added-count : count (added h y) ≡ suc (count h)
-  added-count = length-more (h .items) y
-
   added-extends : Extends h (added h y)
-  added-extends = record { up = omega (arith, added-count); same = added-old }
+  added-extends = record { up = omega (arith, added-count h y); same = added-old h y }
 
-  -- what holds of each item and of the new one holds of all
-  all-added : (P : Item → Type 0) → ((k : ℕ) → k < count h → P (item h k)) → P y → (k : ℕ) → k < count (added h y) → P (item (added h y) k)
-  all-added P f p k l =
-      elim (decLt k (count h)) [
-        | yes m ↦ rw (added-old k m) (f k m)
-        | no n ↦ let e : k ≡ count h = omega (arith, added-count) in rw (e, added-new) p
-      ]
-
-  pairs-added : (R : Item → Item → Type 0) → ((j k : ℕ) → j < k → k < count h → R (item h j) (item h k)) → ((j : ℕ) → j < count h → R (item h j) y)
-      → (j k : ℕ) → j < k → k < count (added h y) → R (item (added h y) j) (item (added h y) k)
-  pairs-added R f g j k l m =
-      elim (decLt k (count h)) [
-        | yes n ↦ rw (added-old j (omega arith), added-old k n) (f j k l n)
-        | no n ↦ let e : k ≡ count h = omega (arith, added-count) in rw (e, added-new, added-old j (omega arith)) (g j (omega arith))
-      ]
-
-  good-added : Good way rs h → Led way rs y → ((j : ℕ) → j < count h → Sooner (item h j .text) (y .text)) → count h < way .limit
+  good-added : Good way rs h → Led way rs y → length (y .text) ≤ count h → ((j : ℕ) → j < count h → Sooner (item h j .text) (y .text)) → count h < way .limit
       → numberIn (h .items) y ≡ count h → Good way rs (added h y)
-  good-added g l s f n = record {
-    some = omega (arith, added-count);
-    few = omega (arith, added-count);
-    begins = ap (λ (x : Item). x .text) (added-old 0 (g .some)) ∙ g .begins;
-    led = all-added (Led way rs) (g .led) l;
-    rising = pairs-added (λ x z. Sooner (x .text) (z .text)) (g .rising) s;
-    once = pairs-added (λ x z. Pair x z → ⊥) (g .once) (λ j k p. number-after (h .items) y n j k p);
+  good-added g l z s f n = record {
+    some = omega (arith, added-count h y);
+    few = omega (arith, added-count h y);
+    begins = ap (λ (x : Item). x .text) (added-old h y 0 (g .some)) ∙ g .begins;
+    led = each-added h y (λ k. Led way rs) (g .led) l;
+    short = each-added h y (λ k x. length (x .text) ≤ k) (g .short) z;
+    rising = pairs-added h y (λ x z. Sooner (x .text) (z .text)) (g .rising) s;
+    once = pairs-added h y (λ x z. Pair x z → ⊥) (g .once) (λ j k p. number-after (h .items) y n j k p);
   }
 
 -- ---- one step
 
 -- the next item is what its text leads to
-led-next : (way : Way) (rs : List Re) (x y : Item) (c : ℕ) → Led way rs x → c < bytes → y .sheet ≡ way .go (x .sheet) c → y .vector ≡ deriveAll c (x .vector)
+pub led-next : (way : Way) (rs : List Re) (x y : Item) (c : ℕ) → Led way rs x → c < bytes → y .sheet ≡ way .go (x .sheet) c → y .vector ≡ deriveAll c (x .vector)
     → y .text ≡ x .text ++ (c ∷ []) → Led way rs y
 led-next way rs x y c l b p q t = record {
   sheet-is = p ∙ ap (λ (s : ℕ). way .go s c) (l .sheet-is) ∙ sym (reach-more (way .go) 0 (x .text) c) ∙ ap (reach (way .go) 0) (sym t);
@@ -156,33 +131,36 @@ led-next way rs x y c l b p q t = record {
 }
 
 -- after the step from item i by byte c
-record Stepped (way : Way) (rs : List Re) (i c : ℕ) (h h′ : Held) (j : ℕ) : Type 0 where
-  good : Good way rs h′
-  extends : Extends h h′
-  ahead : Ahead h′ i (suc c)
-  leads : Leads way h′ i c j
+pub record Stepped (way : Way) (rs : List Re) (i c : ℕ) (h h′ : Held) (j : ℕ) : Type 0 where
+  pub good : Good way rs h′
+  pub extends : Extends h h′
+  pub ahead : Ahead h′ i (suc c)
+  pub leads : Leads way h′ i c j
 
 module _ (way : Way) (rs : List Re) (i c : ℕ) where
-  stepped : (h : Held) {h′ : Held} {j : ℕ} → Good way rs h → i < count h → c < bytes → Ahead h i c → Moved way (item h i) c h h′ j → Stepped way rs i c h h′ j
-  stepped h g l b a (again j k p q) = record {
+  pub stepped : (h : Held) {h′ : Held} {j : ℕ} → Good way rs h → i < count h → c < bytes → Ahead h i c → Fits c (item h i .vector) → Moved way (item h i) c h h′ j
+      → Stepped way rs i c h h′ j
+  stepped h g l b a d (again j k p q) = record {
     good = g;
     extends = extends-self h;
     ahead = λ m n. sooner-trans (a m n) (sooner-last (item h i .text) (omega arith));
-    leads = record { inside = k; sheet-on = p; vector-on = q; not-later = sooner (a j k) };
+    leads = record { inside = k; sheet-on = p; vector-on = q; fits = d; not-later = sooner (a j k) };
   }
-  stepped h g l b a (fresh y p q t f n) =
-      let old = added-old way rs h y in
-      let now = added-new way rs h y in
+  stepped h g l b a d (fresh y p q t f n) =
+      let old = added-old h y in
+      let now = added-new h y in
       let text-i : item (added h y) i .text ≡ item h i .text = ap (λ (x : Item). x .text) (old i l) in
       record {
-        good = good-added way rs h y g (led-next way rs (item h i) y c (g .led i l) b p q t) (λ j k. rw t (a j k)) f n;
+        good = good-added way rs h y g (led-next way rs (item h i) y c (g .led i l) b p q t)
+            (omega (arith, ap length t, length-snoc (item h i .text) c, g .short i l)) (λ j k. rw t (a j k)) f n;
         extends = added-extends way rs h y;
-        ahead = rw text-i (all-added way rs h y (λ x. Sooner (x .text) (item h i .text ++ (suc c ∷ [])))
+        ahead = rw text-i (each-added h y (λ k x. Sooner (x .text) (item h i .text ++ (suc c ∷ [])))
             (λ m k. sooner-trans (a m k) (sooner-last (item h i .text) (omega arith))) (rw t (sooner-last (item h i .text) (omega arith))));
         leads = record {
-          inside = omega (arith, added-count way rs h y);
+          inside = omega (arith, added-count h y);
           sheet-on = rw (now, old i l) p;
           vector-on = rw (now, old i l) q;
+          fits = rw (old i l) d;
           not-later = rw (now, text-i) (equal t);
         };
       }
@@ -253,7 +231,7 @@ module _ (way : Way) (rs : List Re) (i : ℕ) where
           → Rowed way rs i (suc k) c h h′ js
       go (stopped r) d ih f = absurd (no-walk f)
       go (reached h₁ j) d ih f =
-          let s = stepped way rs i c h g l (omega arith) a (step-moved way i h c h₁ j d) in
+          let s = stepped way rs i c h g l (omega arith) a (step-fits way i h c h₁ j d) (step-moved way i h c h₁ j d) in
           rest h₁ j s (row way i k (suc c) h₁) (ih h₁ (s .good) (omega (arith, s .extends .up)) (omega arith) (s .ahead)) f
 
 -- ---- all rows

@@ -10,12 +10,13 @@ use Rattle.meaning.specs.Rules.{label}
 use Rattle.vector.specs.Layout.{sheetsAt}
 use Rattle.vector.specs.Vectors.{vectorOf}
 use Rattle.vector.specs.Memory.{numbersAt}
+use Rattle.comparing.specs.Compare.{stateOf}
 use Rattle.comparing.specs.ShowLaws.{Left, left-first, left-next, left-found, left-none}
 use Rattle.comparing.proofs.first_differing.Statement.{statement}
 use Rattle.comparing.proofs.first_differing.Tie as tie
 
 abbrev Inv-loop : tie.InvT-loop
-Inv-loop cells n count labels k₀ k = (k ≤ count) × Left cells n count labels k
+Inv-loop cells n count labels k₀ k = (k ≤ count + 1) × Left cells n count labels k
 
 abbrev μ-loop : tie.MeasureT-loop
 μ-loop cells n count labels k₀ k = count - k
@@ -31,7 +32,7 @@ by-book c =
 loop-holds : tie.Need-loop-holds Inv-loop μ-loop
 loop-holds c =
     let a = c .before .before .args in
-    (search needs, left-first (a .cells .now) (a .n) (a .count) (a .labels .now))
+    (omega arith, left-first (a .cells .now) (a .n) (a .count) (a .labels .now))
 
 load-requires : tie.Need-load-requires Inv-loop μ-loop
 load-requires c κs =
@@ -41,30 +42,37 @@ load-requires c κs =
 label-of-requires : tie.Need-label-of-requires Inv-loop μ-loop
 label-of-requires c κs = rw (c .load .ensures) (c .before .before .before .before .before .pre .reads (c .before .before .loop .k) (omega arith))
 
-add-state : tie.Need-add-state Inv-loop μ-loop
-add-state c = omega (arith, c .before .before .before .before .before .before .pre .few)
+add-state-of : tie.Need-add-state-of Inv-loop μ-loop
+add-state-of c = omega (arith, c .before .before .before .before .before .before .pre .few)
 
-mul-state : tie.Need-mul-state Inv-loop μ-loop
-mul-state c = omega (arith, c .before .before .before .before .before .before .pre .few)
+mul-state-of : tie.Need-mul-state-of Inv-loop μ-loop
+mul-state-of c = omega (arith, c .before .before .before .before .before .before .pre .few)
 
-shared-slice-read-state : tie.Need-shared-slice-read-state Inv-loop μ-loop
-shared-slice-read-state c = let p = c .before .before .before .before .before .before .before .pre in omega (arith, p .few, p .long)
+shared-slice-read-state-of : tie.Need-shared-slice-read-state-of Inv-loop μ-loop
+shared-slice-read-state-of c = let p = c .before .before .before .before .before .before .before .pre in omega (arith, p .few, p .long)
+
+state-of-requires : tie.Need-state-of-requires Inv-loop μ-loop
+state-of-requires c κs = search needs
 
 shared-slice-read-by-table : tie.Need-shared-slice-read-by-table Inv-loop μ-loop
 shared-slice-read-by-table c =
-    let p = c .before .before .before .before .before .before .before .before .pre in
-    p .sheets (c .before .before .before .before .before .loop .k) (omega arith)
+    let p = c .before .before .before .before .before .before .before .before .before .pre in
+    omega (arith, p .sheets (c .before .before .before .before .before .before .loop .k) (omega arith), c .before .state-of .ensures)
 
 cast-by-table : tie.Need-cast-by-table Inv-loop μ-loop
-cast-by-table c =
-    let k = c .before .before .before .before .before .loop .k in
-    omega (arith, c .shared-slice-known4 .given (getD (c .before .before .before .before .before .before .before .before .args .cells .now) (sheetsAt + k) 0))
+cast-by-table c = omega (arith, c .shared-slice-known4 .given (c .before .state-of .result))
+
+-- the table's label of item k
+by-table : (c : tie.After-shared-slice-known4 Inv-loop μ-loop)
+    → (let a = c .before .before .before .before .before .before .before .before .before .args in
+    getD (a .labels .now) (c .before .state-of .result) 0 ≡ getD (a .labels .now) (stateOf (getD (a .cells .now) (sheetsAt + c .before .before .before .before .before .before .loop .k) 0)) 0)
+by-table c = ap (λ (q : ℕ). getD (c .before .before .before .before .before .before .before .before .before .args .labels .now) q 0) (c .before .state-of .ensures)
 
 returns : tie.Need-returns Inv-loop μ-loop
 returns c =
-    let a = c .before .before .before .before .before .before .before .before .before .args in
-    let l = c .before .before .before .before .before .before .loop in
-    left-found (a .cells .now) (a .n) (a .count) (a .labels .now) (l .k) (omega arith) (l .inv .1) _ (by-book (c .before .before .before)) _ refl (c .if1 .taken)
+    let a = c .before .before .before .before .before .before .before .before .before .before .args in
+    let l = c .before .before .before .before .before .before .before .loop in
+    left-found (a .cells .now) (a .n) (a .count) (a .labels .now) (l .k) (omega arith) (l .inv .1) _ (by-book (c .before .before .before .before)) _ (by-table (c .before)) (c .if1 .taken)
 
 add-k : tie.Need-add-k Inv-loop μ-loop
 add-k c = search needs
@@ -74,9 +82,9 @@ loop-less c = search needs
 
 loop-again : tie.Need-loop-again Inv-loop μ-loop
 loop-again c =
-    let a = c .before .before .before .before .before .before .before .before .before .args in
-    let l = c .before .before .before .before .before .before .loop in
-    (search needs, left-next (a .cells .now) (a .n) (a .count) (a .labels .now) (l .k) (omega arith) (l .inv .1) _ (by-book (c .before .before .before)) _ refl (c .if1 .left))
+    let a = c .before .before .before .before .before .before .before .before .before .before .args in
+    let l = c .before .before .before .before .before .before .before .loop in
+    (omega arith, left-next (a .cells .now) (a .n) (a .count) (a .labels .now) (l .k) (omega arith) (l .inv .1) _ (by-book (c .before .before .before .before)) _ (by-table (c .before)) (c .if1 .left))
 
 returns-2 : tie.Need-returns-2 Inv-loop μ-loop
 returns-2 c =
@@ -93,9 +101,10 @@ first-differing-spec =
     loop-holds
     load-requires
     label-of-requires
-    add-state
-    mul-state
-    shared-slice-read-state
+    add-state-of
+    mul-state-of
+    shared-slice-read-state-of
+    state-of-requires
     shared-slice-read-by-table
     cast-by-table
     returns

@@ -5,7 +5,7 @@ use native.Mathlib.Omega.{arith}
 use mathlib.Core.Path.{_≡_, refl}
 use borrow.Author.Needs.{needs}
 use lib.ListN.{length}
-use Rattle.number.specs.Limits.{pairs}
+use Rattle.vector.specs.Layout.{items}
 use Rattle.comparing.specs.BesideLaws.{Rounds, rounds-first, rounds-end, rounds-stop, rounds-next}
 use Rattle.pool.specs.Index.{Indexed}
 use Rattle.steps.specs.CallLaws.{followed}
@@ -17,7 +17,7 @@ Inv-loop index₀ cells₀ top count n targets next₀ held₀ i₀ index cells 
     Rounds cells₀ n top count targets cells next held i × (length index ≡ length index₀) × Indexed index cells next
 
 abbrev μ-loop : tie.MeasureT-loop
-μ-loop index₀ cells₀ top count n targets next₀ held₀ i₀ index cells next held i = pairs - i
+μ-loop index₀ cells₀ top count n targets next₀ held₀ i₀ index cells next held i = items - i
 
 loop-holds : tie.Need-loop-holds Inv-loop μ-loop
 loop-holds c =

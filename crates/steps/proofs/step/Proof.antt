@@ -35,7 +35,7 @@ returns c =
     let s = c .before .before .before .before .before .before .before .before .before .before .before .before in
     let l = c .before .before .before .before .before .before .before .before .load in
     let d = c .before .before .before .before .before .derive-vector in (
-      answer-long (s .args .cells .now) (s .args .n) (s .args .top) (s .args .count) (s .args .limit) (s .args .i) (s .args .byte) (s .args .sheet) (s .args .full) (s .pre .0)
+      answer-long (s .args .cells .now) (s .args .n) (s .args .top) (s .args .count) (s .args .limit) (s .args .i) (s .args .place) (s .args .byte) (s .args .sheet) (s .args .full) (s .pre .0)
           (l .result .at) (l .ensures) _ (d .ensures .spared)
           (d .ensures .too-long (c .if1 .taken)),
       tt,
@@ -58,10 +58,10 @@ returns-2 c =
     let l = c .before .before .before .before .before .before .before .before .before .before .before .before .load in
     let d = c .before .before .before .before .before .before .before .before .before .derive-vector in
     let f = c .before .find in (
-      answer-held (s .args .cells .now) (s .args .n) (s .args .top) (s .args .count) (s .args .limit) (s .args .i) (s .args .byte) (s .args .sheet) (s .args .full) (s .pre .0)
+      answer-held (s .args .cells .now) (s .args .n) (s .args .top) (s .args .count) (s .args .limit) (s .args .i) (s .args .place) (s .args .byte) (s .args .sheet) (s .args .full) (s .pre .0)
           (l .result .at) (l .ensures) _ (d .ensures .spared)
           _ _ (d .ensures .done (c .before .before .before .before .if1 .left)) _ (f .ensures) (c .if2 .taken),
-      index-held (s .args .cells .now) (s .args .n) (s .args .top) (s .args .count) (s .args .limit) (s .args .i) (s .args .byte) (s .args .sheet) (s .args .full) (s .pre .0)
+      index-held (s .args .cells .now) (s .args .n) (s .args .top) (s .args .count) (s .args .limit) (s .args .i) (s .args .place) (s .args .byte) (s .args .sheet) (s .args .full) (s .pre .0)
           (l .result .at) (l .ensures) _ (d .ensures .spared)
           _ _ (d .ensures .done (c .before .before .before .before .if1 .left)) _ (f .ensures) _ (d .ensures .indexed (c .before .before .before .before .if1 .left)) (c .if2 .taken),
     )
@@ -78,7 +78,7 @@ returns-3 c =
     let l = c .before .before .before .before .before .before .before .before .before .before .before .before .before .load in
     let d = c .before .before .before .before .before .before .before .before .before .before .derive-vector in
     let f = c .before .before .find in (
-      answer-full (s .args .cells .now) (s .args .n) (s .args .top) (s .args .count) (s .args .limit) (s .args .i) (s .args .byte) (s .args .sheet) (s .args .full) (s .pre .0)
+      answer-full (s .args .cells .now) (s .args .n) (s .args .top) (s .args .count) (s .args .limit) (s .args .i) (s .args .place) (s .args .byte) (s .args .sheet) (s .args .full) (s .pre .0)
           (l .result .at) (l .ensures) _ (d .ensures .spared)
           _ _ (d .ensures .done (c .before .before .before .before .before .if1 .left)) _ (f .ensures) (c .before .if2 .left) (omega (arith, c .if3 .taken)),
       tt,
@@ -96,7 +96,7 @@ returns-4 c =
     let l = c .before .before .before .before .before .before .before .before .before .before .before .before .before .before .load in
     let d = c .before .before .before .before .before .before .before .before .before .before .before .derive-vector in
     let f = c .before .before .before .find in (
-      answer-pool (s .args .cells .now) (s .args .n) (s .args .top) (s .args .count) (s .args .limit) (s .args .i) (s .args .byte) (s .args .sheet) (s .args .full) (s .pre .0)
+      answer-pool (s .args .cells .now) (s .args .n) (s .args .top) (s .args .count) (s .args .limit) (s .args .i) (s .args .place) (s .args .byte) (s .args .sheet) (s .args .full) (s .pre .0)
           (l .result .at) (l .ensures) _ (d .ensures .spared)
           _ _ (d .ensures .done (c .before .before .before .before .before .before .if1 .left)) _ (f .ensures) (c .before .before .if2 .left) (omega (arith, c .before .if3 .left)) (c .if4 .taken),
       tt,
@@ -107,8 +107,8 @@ store-item-requires c κs =
     let p = c .before .before .before .before .before .before .before .before .before .before .before .before .before .before .before .before .before .before .before .pre .0 in
     record { long = omega (arith, p .kept .long, c .before .before .before .before .before .before .before .before .before .before .before .before .derive-vector .ensures .spared .same-length); few = omega (arith, c .before .before .if3 .left, p .most) }
 
-add-t30 : tie.Need-add-t30
-add-t30 c = search needs
+add-t31 : tie.Need-add-t31
+add-t31 c = search needs
 
 same-length-9 : tie.Need-same-length-9
 same-length-9 c = search needs
@@ -122,10 +122,10 @@ returns-5 c =
     let l = c .before .before .before .before .before .before .before .before .before .before .before .before .before .before .before .before .before .before .load in
     let d = c .before .before .before .before .before .before .before .before .before .before .before .before .before .before .before .derive-vector in
     let f = c .before .before .before .before .before .before .before .find in (
-      answer-new (s .args .cells .now) (s .args .n) (s .args .top) (s .args .count) (s .args .limit) (s .args .i) (s .args .byte) (s .args .sheet) (s .args .full) (s .pre .0)
+      answer-new (s .args .cells .now) (s .args .n) (s .args .top) (s .args .count) (s .args .limit) (s .args .i) (s .args .place) (s .args .byte) (s .args .sheet) (s .args .full) (s .pre .0)
           (l .result .at) (l .ensures) _ (d .ensures .spared)
           _ _ (d .ensures .done (c .before .before .before .before .before .before .before .before .before .before .if1 .left)) _ (f .ensures) (omega (arith, c .before .before .before .before .before .if3 .left)) (c .before .before .before .before .if4 .left) _ (c .before .before .store-item .ensures) (c .before .before .before .before .before .before .if2 .left),
-      index-new (s .args .cells .now) (s .args .n) (s .args .top) (s .args .count) (s .args .limit) (s .args .i) (s .args .byte) (s .args .sheet) (s .args .full) (s .pre .0)
+      index-new (s .args .cells .now) (s .args .n) (s .args .top) (s .args .count) (s .args .limit) (s .args .i) (s .args .place) (s .args .byte) (s .args .sheet) (s .args .full) (s .pre .0)
           (l .result .at) (l .ensures) _ (d .ensures .spared)
           _ _ (d .ensures .done (c .before .before .before .before .before .before .before .before .before .before .if1 .left)) _ (f .ensures) (omega (arith, c .before .before .before .before .before .if3 .left)) (c .before .before .before .before .if4 .left) _ (c .before .before .store-item .ensures) _ (d .ensures .indexed (c .before .before .before .before .before .before .before .before .before .before .if1 .left)),
     )
@@ -150,7 +150,7 @@ step-spec =
     same-length-8
     returns-4
     store-item-requires
-    add-t30
+    add-t31
     same-length-9
     same-length-10
     returns-5)
