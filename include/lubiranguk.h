@@ -111,9 +111,9 @@ size_t lubi_cut_from(size_t count, const uint8_t *labels, size_t labels_length, 
 
 /* Compares a rule book with a table: whether both cut every text there is into the same words under the same rules.
    answer: LUBI_SAME; or LUBI_DIFFERS, the length of the shortest text that they cut differently, 1 to LUBI_TEXT, the book's label and
-   the table's for it (1 plus a rule's number, or 0). Of the texts of that length it is the lowest. It stands at the front of text_area,
-   and the rest of that area is 0; after LUBI_SAME all of it is 0. The label of the table's start counts only if some text leads back to
-   the start, since words are never empty.
+   the table's for it (1 plus a rule's number, or 0). Of the texts of that length that they cut differently it is the lowest. It stands at
+   the front of text_area, and the rest of that area is 0; after LUBI_SAME all of it is 0. The label of the table's start counts only if
+   some non-empty text leads back to the start, since words are never empty.
    Refuses LUBI_ROOM first, where the text area or the work area is below full size, and then changes neither; else LUBI_LOADED, where
    the table is not well formed, then what is wrong in the book, at the byte where it is wrong (1 to 5), then LUBI_LONG, LUBI_PAIRS or
    LUBI_POOL, at the number of the pair that was being left (0 for the start, and 1 to 256 in the order found), and then leaves the text

@@ -63,7 +63,7 @@ first-sheet : (way : Way) (v : List Re) {x : Step} → Came way 0 nothingHeld (f
     → (k : ℕ) → k < count h → item h k .sheet ≡ 0
 first-sheet way v (held j l p n) h k e = absurd (omega arith)
 first-sheet way v (full n l) h k e = absurd (no-reach e)
-first-sheet way v (over n l) h k e = absurd (no-reach e)
+first-sheet way v (over n l o) h k e = absurd (no-reach e)
 first-sheet way v (new n l o) h j e = subst (λ (g : Held). (k : ℕ) → k < count g → item g k .sheet ≡ 0) (reached-held e) go
   where
     go : (k : ℕ) → k < 1 → getD (firstItem v ∷ []) k none .sheet ≡ 0

@@ -1,11 +1,10 @@
 -- The comparison: pairs of a table's state and a vector are walked from the start, and the walk is finished first. Only non-empty texts count.
 -- Then the first pair found whose labels differ is shown by its text; if there is none, book and table are the same.
 use Prim.Native.Nat.{ℕ, zero, suc, _-_}
-use mathlib.Core.Bool.{Bool, true, false, cond}
+use mathlib.Core.Bool.{cond}
 use mathlib.Core.List.{List, [], _∷_}
 use lib.Dec.{eqb, ltb}
 use lib.ListN.{getD, drop}
-use Rattle.number.specs.declared.Refusal.{Refusal}
 use Rattle.number.specs.declared.Refusal.the-variants.{Pairs}
 use Rattle.number.specs.Limits.{pairs}
 use Rattle.number.specs.Refused.{Outcome}
@@ -17,7 +16,7 @@ use Rattle.cutting.specs.Steps.{stepIn, labelAt}
 use Rattle.walk.specs.Walk.{Item, none, Held, numberIn, Way, Walked, walkFrom}
 use Rattle.walk.specs.Walk.Walked.{halted, walked}
 
--- An entry stands in front of the table: number 0 is the entry, where nothing has been read, and number q + 1 is state q.
+-- An entry stands in front of the table: an item's `sheet` is 0 at the entry, where nothing has been read, and q + 1 at state q.
 -- The entry goes on as state 0 does, and nothing leads to it: so the entry is item 0, and the other items are the pairs that a non-empty text reaches.
 -- The start is one of these if some text leads back to it, from that step on.
 abbrev pub stateOf : ℕ → ℕ

@@ -8,24 +8,24 @@ use native.Mathlib.Omega.{arith}
 use native.Mathlib.Decide.{decLt}
 use borrow.Author.Tests.{eqb-true, eqb-false}
 use lib.Dec.{eqb}
-use lib.ListN.{length, getD, drop, length-drop}
+use lib.ListN.{length, getD, length-drop}
 use lib.Seq.{getD-drop}
 use Rattle.number.specs.declared.Refusal.{Refusal}
-use Rattle.number.specs.Limits.{pairs, shownText}
+use Rattle.number.specs.Limits.{shownText}
 use Rattle.number.specs.Numbers.{Bytes}
 use Rattle.number.specs.Refused.{Outcome}
 use Rattle.number.specs.Refused.Outcome.{gives, refuses}
 use Rattle.meaning.specs.Re.{Re, Text}
-use Rattle.meaning.specs.Rules.{Names, label, deriveBy, start, labelAfter}
+use Rattle.meaning.specs.Rules.{label, labelAfter}
 use Rattle.meaning.specs.Words.{reach}
 use Rattle.table.specs.Table.{Table}
 use Rattle.cutting.specs.Steps.{stepIn, labelAt, labelOf}
 use Rattle.walk.specs.Walk.{Item, none, Held, Walked, walkFrom}
 use Rattle.walk.specs.Walk.Walked.{halted, walked}
-use Rattle.walk.specs.StepLaws.{item, count, Pair}
-use Rattle.walk.specs.WalkLaws.{Led, Good, target}
+use Rattle.walk.specs.StepLaws.{item, count}
+use Rattle.walk.specs.WalkLaws.{target}
 use Rattle.walk.specs.Explored.{Explored, walk-explores, Arrived, arrived}
-use Rattle.walk.specs.Texts.{Sooner, NotLater}
+use Rattle.walk.specs.Texts.{NotLater}
 use Rattle.walk.specs.Texts.NotLater.{equal, sooner}
 use Rattle.walk.specs.TextLaws.{not-later-trans, sooner-some}
 use Rattle.comparing.specs.Compare.{stateOf, beside, found, Verdict, bookLabel, tableLabel, firstDiffering, comparedBy, compareRules}

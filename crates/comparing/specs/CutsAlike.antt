@@ -20,7 +20,7 @@ use Rattle.table.specs.Table.{Table}
 use Rattle.cutting.specs.declared.Word.{Word}
 use Rattle.cutting.specs.Steps.{labelOf, Labels, FirstBy, firstBy}
 use Rattle.cutting.specs.Cut.{Cut, wordAt, Cuts, cutBy}
-use Rattle.cutting.specs.Cut.Cuts.{done, stuck, full, word}
+use Rattle.cutting.specs.Cut.Cuts.{stuck, word}
 use Rattle.cutting.specs.CutLaws.{first-by, cut-is, cut-alike}
 use Rattle.walk.specs.Texts.{Sooner}
 use Rattle.walk.specs.TextLaws.{sooner-self, not-later-sooner, sooner-drop, sooner-take}

@@ -55,18 +55,21 @@ pub record OnePair (rs : List Re) (t : Table) (v w : Text) : Type 0 where
   pub one-vector : deriveBy (start rs) v ≡ deriveBy (start rs) w
 
 -- n is the number of the pair that a text leads to: pairs are numbered from 0 in the order of their first texts.
--- The empty text comes first, so that the start has number 0, also where another text leads back to it.
-pub record Number (rs : List Re) (t : Table) (w : Text) (n : ℕ) : Type 0 where
-  -- the first text of each pair up to this one
+-- The empty text comes before all others, so that the start has number 0, also where another text leads back to it.
+pub record PairNumber (rs : List Re) (t : Table) (w : Text) (n : ℕ) : Type 0 where
+  -- the first texts of the pairs 0 to n: whatever is sooner leads to a pair with a lower number
   pub text : ℕ → Text
-  pub begins : text 0 ≡ []
   pub is-text : (k : ℕ) → k ≤ n → Bytes (text k)
-  pub rising : (j k : ℕ) → j < k → k ≤ n → Sooner (text j) (text k)
   pub apart : (j k : ℕ) → j < k → k ≤ n → OnePair rs t (text j) (text k) → ⊥
-  pub all : (v : Text) → Bytes v → Sooner v (text n) → (k : ℕ) × (k < n) × OnePair rs t v (text k)
+  pub first : (k : ℕ) → k ≤ n → (v : Text) → Bytes v → Sooner v (text k) → (j : ℕ) × (j < k) × OnePair rs t v (text j)
   pub is : OnePair rs t w (text n)
 
 -- ---- limits
+
+-- the step that a text ends with takes a derivative that is too long; for the empty text, the rules themselves are
+pub data LongAt (rs : List Re) (text : Text) : Type 0 where
+  rules : text ≡ [] → normalised rs ≡ TooLong → LongAt rs text
+  step : (w : Text) (c : ℕ) → Bytes w → c < bytes → text ≡ w ++ (c ∷ []) → derived c (deriveBy (start rs) w) ≡ TooLong → LongAt rs text
 
 -- n pairs that non-empty texts lead to, up to a text
 pub record PairsTo (rs : List Re) (t : Table) (last : Text) (n : ℕ) : Type 0 where
@@ -81,18 +84,33 @@ pub record TermsTo (rs : List Re) (last : Text) (terms : List Re) : Type 0 where
   pub once : Once terms
   pub part : (x : Re) → Held terms x → (w : Text) × Bytes w × NotLater w last × PartOf x (deriveBy (start rs) w)
 
--- what a refused comparison met, with the number of the pair that was being left by a byte: a term that is too long, the 257th pair, the 1,025th term
-pub data Declined (rs : List Re) (t : Table) : Refusal → Type 0 where
-  rules-long : normalised rs ≡ TooLong → Declined rs t (Long 0)
-  rules-many : (terms : List Re) → TermsTo rs [] terms → pool < length terms → Declined rs t (Pool 0)
-  long : (w : Text) (c place : ℕ) → Bytes w → c < bytes → Number rs t w place → derived c (deriveBy (start rs) w) ≡ TooLong → Declined rs t (Long place)
-  pairs-full : (w : Text) (c place : ℕ) → Bytes w → c < bytes → Number rs t w place → PairsTo rs t (w ++ (c ∷ [])) (suc pairs) → Declined rs t (Pairs place)
-  pool-full : (w : Text) (c place : ℕ) → Bytes w → c < bytes → Number rs t w place → (terms : List Re) → TermsTo rs (w ++ (c ∷ [])) terms → pool < length terms
-      → Declined rs t (Pool place)
+-- no limit is passed before a text
+pub record Unpassed (rs : List Re) (t : Table) (last : Text) : Type 0 where
+  pub none-long : (v : Text) → Bytes v → Sooner v last → LongAt rs v → ⊥
+  pub pairs-few : (v : Text) (n : ℕ) → Sooner v last → PairsTo rs t v n → n ≤ pairs
+  pub terms-few : (v : Text) (terms : List Re) → Sooner v last → TermsTo rs v terms → length terms ≤ pool
 
--- no limit is passed, by any text
-pub record Within (rs : List Re) (t : Table) : Type 0 where
-  pub rules-short : normalised rs ≡ TooLong → ⊥
-  pub short : (w : Text) (c : ℕ) → Bytes w → c < bytes → derived c (deriveBy (start rs) w) ≡ TooLong → ⊥
-  pub pairs-few : (last : Text) (n : ℕ) → PairsTo rs t last n → n ≤ pairs
-  pub terms-few : (last : Text) (terms : List Re) → TermsTo rs last terms → length terms ≤ pool
+-- a limit is passed at a text, in the order of the tests: Long, Pairs, Pool
+pub data Passed (rs : List Re) (t : Table) (last : Text) (place : ℕ) : Refusal → Type 0 where
+  long : LongAt rs last → Passed rs t last place (Long place)
+  pairs-full : (LongAt rs last → ⊥) → PairsTo rs t last (suc pairs) → Passed rs t last place (Pairs place)
+  pool-full : (LongAt rs last → ⊥) → ((n : ℕ) → PairsTo rs t last n → n ≤ pairs) → (terms : List Re) → TermsTo rs last terms → pool < length terms
+      → Passed rs t last place (Pool place)
+
+-- the number of the pair that a text leaves by its last byte; 0 for the empty text
+pub data Leaving (rs : List Re) (t : Table) (text : Text) (place : ℕ) : Type 0 where
+  nothing : text ≡ [] → place ≡ 0 → Leaving rs t text place
+  pair : (w : Text) (c : ℕ) → text ≡ w ++ (c ∷ []) → PairNumber rs t w place → Leaving rs t text place
+
+-- what a refused comparison met: the first text at which a limit is passed, that limit, and the number of the pair being left
+pub record Declined (rs : List Re) (t : Table) (r : Refusal) : Type 0 where
+  pub last : Text
+  pub is-text : Bytes last
+  pub before : Unpassed rs t last
+  pub place : ℕ
+  pub leaving : Leaving rs t last place
+  pub passed : Passed rs t last place r
+
+-- no text passes a limit
+abbrev pub WithinLimits : List Re → Table → Type 0
+WithinLimits rs t = (last : Text) → Unpassed rs t last

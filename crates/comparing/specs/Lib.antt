@@ -6,6 +6,7 @@ pub mod Demand
 pub mod Promises
 pub mod ToldLaws
 pub mod CompareLaws
+pub mod PairLaws
 pub mod DeclineLaws
 pub mod CutsAlike
 pub mod OwnSheet

@@ -1,7 +1,7 @@
 -- The theorems of comparing that are bought, together; each is proved in the file that its proof names.
 -- To believe them, read the definitions: Demand, Compare and Calls here, Texts and Walk in walk, and those that they stand on.
 use Prim.Native.Nat.{ℕ}
-use mathlib.Core.Path.{_≡_, refl, sym, ap, subst, _∙_}
+use mathlib.Core.Path.{_≡_, refl, sym, ap, _∙_}
 use mathlib.Core.List.{List}
 use mathlib.Core.Logic.{_↔_}
 use native.Mathlib.Omega.{arith}
@@ -23,7 +23,7 @@ use Rattle.table.specs.Table.{Table}
 use Rattle.cutting.specs.Steps.{labelOf}
 use Rattle.cutting.specs.Cut.{Cut, Cuts, cutBy}
 use Rattle.cutting.specs.CutLaws.{cut-is, cut-one}
-use Rattle.walk.specs.Walk.{Held, Walked, walkFrom}
+use Rattle.walk.specs.Walk.{Walked, walkFrom}
 use Rattle.walk.specs.Walk.Walked.{halted, walked}
 use Rattle.walk.specs.KeepLaws.{WalkIs}
 use Rattle.walk.specs.HaltLaws.{Met, walk-met}
@@ -31,9 +31,10 @@ use Rattle.building.specs.Calls.{buildRead, buildBook}
 use Rattle.comparing.specs.Compare.{beside, Verdict, comparedBy, compareRules}
 use Rattle.comparing.specs.Compare.Verdict.{Same, Differs}
 use Rattle.comparing.specs.Calls.{compareRead, compareBook}
-use Rattle.comparing.specs.Demand.{CutAlike, WholeAlike, AgreeOn, Differ, Number, Declined, Within}
+use Rattle.comparing.specs.Demand.{CutAlike, WholeAlike, AgreeOn, Differ, PairNumber, Declined, WithinLimits}
 use Rattle.comparing.specs.CompareLaws.{compare-means, compare-same}
-use Rattle.comparing.specs.DeclineLaws.{declined, answered, not-both, number-one}
+use Rattle.comparing.specs.DeclineLaws.{declined, answered, not-both, declined-one}
+use Rattle.comparing.specs.PairLaws.{number-one}
 use Rattle.comparing.specs.CutsAlike.{cuts-agree, cuts-label, shown-cuts, shown-first}
 use Rattle.comparing.specs.OwnSheet.{own-same}
 
@@ -77,7 +78,7 @@ module _ (file : List ℕ) (b : Book) (after : ℕ) (t : Table) (read : readBook
         first-label = λ w k l f. s .first w k l (λ d. f (agree-on (meant b) t w d));
       }
 
-  -- it declines only where a limit is passed, at the pair that has the place for its number
+  -- it declines only where a limit is passed: by the first text that does, and its place is the number of the pair that this text leaves
   pub the-limits : (r : Refusal) → compareBook file t ≡ refuses r → Declined (meant b) t r
   unfolding compareRules
   the-limits r e = go (walkFrom (beside t) (meant b)) (walk-met (beside t) (meant b) (omega arith)) (rules-of (refuses r) e)
@@ -87,20 +88,23 @@ module _ (file : List ℕ) (b : Book) (after : ℕ) (t : Table) (read : readBook
       go (walked h js) m d = absurd (let z : _≡_ {A = ℕ} 0 1 = cc in omega arith)
 
   -- and answers only where none is
-  pub the-answer : (v : Verdict) → compareBook file t ≡ gives v → Within (meant b) t
+  pub the-answer : (v : Verdict) → compareBook file t ≡ gives v → WithinLimits (meant b) t
   unfolding compareRules
   the-answer v e = go (walkFrom (beside t) (meant b)) refl (rules-of (gives v) e)
     where
-      go : (w : Walked) → walkFrom (beside t) (meant b) ≡ w → comparedBy t w ≡ gives v → Within (meant b) t
+      go : (w : Walked) → walkFrom (beside t) (meant b) ≡ w → comparedBy t w ≡ gives v → WithinLimits (meant b) t
       go (halted r) m d = absurd (let z : _≡_ {A = ℕ} 0 1 = cc in omega arith)
       go (walked h js) m d = answered (meant b) t h js m
 
--- the two exclude each other; so it declines exactly where a limit is passed
-pub the-exactness : (rs : List Re) (t : Table) (r : Refusal) → Declined rs t r → Within rs t → ⊥
+-- the two exclude each other, and there is one refusal at most: so texts alone fix whether it declines, by which refusal and at which place
+pub the-exactness : (rs : List Re) (t : Table) (r : Refusal) → Declined rs t r → WithinLimits rs t → ⊥
 the-exactness rs t r d w = not-both rs t d w
 
--- a pair has one number
-pub the-number : (rs : List Re) (t : Table) (w : Text) (m n : ℕ) → Number rs t w m → Number rs t w n → m ≡ n
+pub the-refusal : (rs : List Re) (t : Table) (r q : Refusal) → Declined rs t r → Declined rs t q → r ≡ q
+the-refusal rs t r q = declined-one rs t r q
+
+-- a pair has no two numbers
+pub the-number : (rs : List Re) (t : Table) (w : Text) (m n : ℕ) → PairNumber rs t w m → PairNumber rs t w n → m ≡ n
 the-number rs t w m n p q = number-one rs t m n p q
 
 -- on the table that our build made of the same book it answers Same

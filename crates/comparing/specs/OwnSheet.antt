@@ -1,18 +1,14 @@
 -- Our own table: compared with the table that the build made of the same rules, the walk only meets pairs of a state and its own vector.
 -- These are counted: no more than the states and the entry, no term that the build's pool lacks, no derivative that the build did not take.
 -- So it passes no limit, and the answer is Same: it neither declines nor faults its own sheet.
-use Prim.Native.Nat.{ℕ, zero, suc, _<_, _≤_}
+use Prim.Native.Nat.{ℕ, suc, _<_, _≤_}
 use mathlib.Core.Path.{_≡_, refl, sym, ap, subst, _∙_}
-use mathlib.Core.List.{List, [], _∷_}
+use mathlib.Core.List.{List, []}
 use mathlib.Core.Logic.{inl, inr}
 use native.Mathlib.Omega.{arith}
-use lib.ListN.{length}
-use Rattle.number.specs.declared.Refusal.{Refusal}
 use Rattle.number.specs.Limits.{bytes, pool, pairs}
-use Rattle.number.specs.Refused.{Outcome}
 use Rattle.number.specs.Refused.Outcome.{gives}
 use Rattle.meaning.specs.Re.{Re}
-use Rattle.meaning.specs.Normal.{normal}
 use Rattle.meaning.specs.Rules.{deriveBy, start}
 use Rattle.table.specs.Table.{Table}
 use Rattle.cutting.specs.Steps.{stepIn}
@@ -21,18 +17,17 @@ use Rattle.walk.specs.Vectors.Vector.{TooLong, Terms}
 use Rattle.walk.specs.VectorLaws.{Is, normalised-is, no-terms}
 use Rattle.walk.specs.Parts.{PartOf, Once, Held as Pool·held}
 use Rattle.walk.specs.PartsLaws.{vector-hold, vector-once}
-use Rattle.walk.specs.Walk.{Item, Held, nothingHeld, numberIn, Step, added, come, after, comeBy, step, Walked, beginBy, onFrom, walkFrom}
-use Rattle.walk.specs.Walk.Step.{stopped, reached}
+use Rattle.walk.specs.Walk.{Item, Held, nothingHeld, Step, added, after, comeBy, step, Walked, beginBy, onFrom, walkFrom}
 use Rattle.walk.specs.Walk.Walked.{halted, walked}
 use Rattle.walk.specs.StepLaws.{item, count, Pair, number-after, each-added, pairs-added, Came, came}
 use Rattle.walk.specs.StepLaws.Came.{held, full, over, new}
 use Rattle.walk.specs.WalkLaws.{target, no-walk}
 use Rattle.walk.specs.Explored.{Explored, walk-explores}
-use Rattle.walk.specs.CountLaws.{Different, at-most, pool-most}
+use Rattle.walk.specs.CountLaws.{at-most, pool-most}
 use Rattle.walk.specs.KeepLaws.{StepIs, WalkIs, walk-keeps, Pooled, walk-pooled, none-held, once-none}
 use Rattle.building.specs.Build.{alone, buildRules}
 use Rattle.building.specs.BuildLaws.{Built, built, built-label}
-use Rattle.comparing.specs.Compare.{stateOf, beside, found, Verdict, firstDiffering, comparedBy, compareRules}
+use Rattle.comparing.specs.Compare.{stateOf, beside, found, firstDiffering, comparedBy, compareRules}
 use Rattle.comparing.specs.Compare.Verdict.{Same}
 use Rattle.comparing.specs.CompareLaws.{compare-same}
 
@@ -86,7 +81,7 @@ module _ (b : Held) (p : Pooled b) where
     own-come : (t : Table) (place : ℕ) → count b < pairs → {s : Step} → Came (beside t) place h y s → StepIs (OwnHeld b) (λ r. ⊥) s
     own-come t place few (held j l q n) = o
     own-come t place few (full n l) = omega (arith, own-few h o)
-    own-come t place few (over n l) = omega (arith, pool-most (added h y .pool) (b .pool) once-added pool-added, p .low)
+    own-come t place few (over n l q) = omega (arith, pool-most (added h y .pool) (b .pool) once-added pool-added, p .low)
     own-come t place few (new n l q) = record {
       own = each-added h y (λ k. Own b) (o .own) z;
       once = pairs-added h y (λ x w. Pair x w → ⊥) (o .once) (λ j k q. number-after (h .items) y n j k q);

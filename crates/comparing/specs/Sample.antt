@@ -1,10 +1,9 @@
 -- The comparison of the sample book W, and of two small rules, with their own tables where the start is labelled otherwise.
 -- The checker computes it: only non-empty texts count.
-use Prim.Native.Nat.{ℕ, suc}
+use Prim.Native.Nat.{ℕ}
 use mathlib.Core.Path.{_≡_, refl}
-use mathlib.Core.List.{List, [], _∷_, _++_}
-use lib.ListN.{length, drop}
-use Rattle.number.specs.declared.Refusal.{Refusal}
+use mathlib.Core.List.{List, [], _∷_}
+use lib.ListN.{drop}
 use Rattle.number.specs.Refused.{Outcome}
 use Rattle.number.specs.Refused.Outcome.{gives, refuses}
 use Rattle.meaning.specs.Sample.{W}

@@ -1,18 +1,17 @@
 -- The number told for an item: what the code works out is what the definition says, and it stays while the walk goes on.
 -- An item that is found later stands behind the one that is being left.
 use Prim.Native.Nat.{ℕ, zero, suc, _+_, _-_, _<_, _≤_}
-use mathlib.Core.Path.{_≡_, refl, sym, ap, subst, _∙_}
+use mathlib.Core.Path.{_≡_, refl, sym, ap, _∙_}
 use mathlib.Core.Bool.{Bool, true, false, cond}
 use mathlib.Core.List.{List, [], _∷_, _++_}
 use native.Mathlib.Omega.{arith}
 use native.Mathlib.Decide.{decLt}
 use borrow.Author.Tests.{eq-eqb, ne-eqb, lt-ltb, le-ltb}
-use lib.Dec.{eqb, ltb}
 use lib.ListN.{length, getD, List·getD-append}
 use Rattle.walk.specs.Walk.{Item, none, Held, samePair, numberIn, Way}
-use Rattle.walk.specs.StepLaws.{count, number-most, Moved}
+use Rattle.walk.specs.StepLaws.{count, Moved}
 use Rattle.walk.specs.StepLaws.Moved.{again, fresh}
-use Rattle.vector.specs.Memory.{numbersAt, itemOf, itemsOf, heldOf, Kept}
+use Rattle.vector.specs.Memory.{numbersAt, itemOf, itemsOf}
 use Rattle.vector.specs.Promises.{Finds}
 use Rattle.vector.specs.MemoryLaws.{items-at, found-number}
 use Rattle.comparing.specs.Compare.{stateOf, startPair, toldBy, numberTold}

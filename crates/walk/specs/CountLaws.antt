@@ -1,11 +1,12 @@
 -- Counting: numbers that are all different and below m are at most m; so terms that are all different and stand in another pool are no more than it holds.
 -- Comparing a book with its own table stays within the limits by this.
 use Prim.Native.Nat.{ℕ, zero, suc, _<_, _≤_}
-use mathlib.Core.Path.{_≡_, refl, sym, ap, _∙_}
+use mathlib.Core.Path.{_≡_, refl, sym, ap, subst, _∙_}
 use mathlib.Core.Bool.{Bool, true, false, cond}
 use mathlib.Core.List.{List, [], _∷_}
 use mathlib.Core.Logic.{inl, inr}
 use native.Mathlib.Omega.{arith}
+use native.Mathlib.Decide.{decLt}
 use borrow.Author.Tests.{eqb-true, eqb-false}
 use lib.Dec.{eqb}
 use lib.ListN.{length, getD}
@@ -63,6 +64,33 @@ pub at-most : (n m : ℕ) (f : ℕ → ℕ) → Different n m f → n ≤ m
 at-most zero m f d = omega arith
 at-most (suc n) zero f d = absurd (let a = d .below 0 (omega arith) in omega arith)
 at-most (suc n) (suc m) f d = let a = at-most n m (moved n m f d) (different-less n m f d) in omega arith
+
+-- the same of a relation: each i has a j below m, and no two have the same
+module _ (n m : ℕ) (R : ℕ → ℕ → Type 0) (has : (i : ℕ) → i < n → (j : ℕ) × (j < m) × R i j)
+    (apart : (i k : ℕ) → i < k → k < n → (j : ℕ) → R i j → R k j → ⊥) where
+  data Chosen (i : ℕ) : Type 0 where
+    chosen : (j : ℕ) → (i < n → (j < m) × R i j) → Chosen i
+
+  choose : (i : ℕ) → Chosen i
+  choose i =
+      elim (decLt i n) [
+        | yes l ↦ let (j, below, r) = has i l in chosen j (λ k. (below, r))
+        | no f ↦ chosen 0 (λ l. absurd (omega arith))
+      ]
+
+  place-of : {i : ℕ} → Chosen i → ℕ
+  place-of (chosen j f) = j
+
+  chosen-is : {i : ℕ} (x : Chosen i) → i < n → (place-of x < m) × R i (place-of x)
+  unfolding place-of
+  chosen-is (chosen j f) l = f l
+
+  pub at-most-by : n ≤ m
+  at-most-by = at-most n m (λ i. place-of (choose i)) (record {
+    below = λ i l. chosen-is (choose i) l .0;
+    apart = λ i k l h e.
+        apart i k l h (place-of (choose k)) (subst (R i) e (chosen-is (choose i) (omega arith) .1)) (chosen-is (choose k) h .1);
+  })
 
 -- ---- terms of one pool in another
 

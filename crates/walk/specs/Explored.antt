@@ -5,7 +5,6 @@ use mathlib.Core.Path.{_≡_, refl, sym, ap, subst, _∙_}
 use mathlib.Core.List.{List, [], _∷_, _++_, map, append-assoc, append-nil}
 use native.Mathlib.Omega.{arith}
 use lib.ListN.{length, getD}
-use Rattle.number.specs.declared.Refusal.{Refusal}
 use Rattle.number.specs.Limits.{bytes}
 use Rattle.number.specs.Numbers.{Bytes}
 use Rattle.meaning.specs.Re.{Re, Text}
@@ -15,14 +14,13 @@ use Rattle.meaning.specs.Words.{reach}
 use Rattle.walk.specs.Vectors.{Vector, normalised}
 use Rattle.walk.specs.Vectors.Vector.{TooLong, Terms}
 use Rattle.walk.specs.VectorLaws.{Is, normalised-is}
-use Rattle.walk.specs.Walk.{Item, none, Held, nothingHeld, numberIn, Step, Way, added, come, Walked, rows, beginBy, onFrom, walkFrom}
-use Rattle.walk.specs.Walk.Step.{stopped, reached}
-use Rattle.walk.specs.Walk.Walked.{halted, walked}
-use Rattle.walk.specs.StepLaws.{item, count, Came, came}
+use Rattle.walk.specs.Walk.{Item, none, Held, nothingHeld, Step, Way, added, beginBy, onFrom, walkFrom}
+use Rattle.walk.specs.Walk.Walked.{walked}
+use Rattle.walk.specs.StepLaws.{item, count, added-old, added-new, added-count, Came, came}
 use Rattle.walk.specs.StepLaws.Came.{held, full, over, new}
-use Rattle.walk.specs.WalkLaws.{Led, Good, Leads, Extends, Rows, rows-good, target, no-walk, reach-more, derive-more}
+use Rattle.walk.specs.WalkLaws.{Led, Good, Leads, Rows, rows-good, target, no-walk, reach-more, derive-more}
 use Rattle.walk.specs.Texts.{Sooner, NotLater}
-use Rattle.walk.specs.Texts.NotLater.{equal, sooner}
+use Rattle.walk.specs.Texts.NotLater.{equal}
 use Rattle.walk.specs.TextLaws.{not-later-snoc, not-later-trans, empty-first}
 
 -- what a finished walk has found: the items, and for each item and byte the number that it leads to
@@ -69,7 +67,7 @@ module _ (way : Way) (rs : List Re) where
       → (h : Held) (js : List ℕ) → onFrom way s ≡ walked h js → Explored way rs h js
   begun v e (held j l p n) h js d = absurd (omega arith)
   begun v e (full n l) h js d = absurd (no-walk d)
-  begun v e (over n l) h js d = absurd (no-walk d)
+  begun v e (over n l p) h js d = absurd (no-walk d)
   begun v e (new n l p) h js d =
       let h₀ = added nothingHeld (record { sheet = 0; vector = v; text = [] }) in
       explored-rows h js h₀ (rows-good way rs (way .limit) 0 h₀ (good-first way rs v e l) (omega arith) (omega arith) (λ _. ahead-first v) h js d)
@@ -81,6 +79,15 @@ module _ (way : Way) (rs : List Re) where
   pub walk-explores : (h : Held) (js : List ℕ) → walkFrom way rs ≡ walked h js → Explored way rs h js
   unfolding walkFrom
   walk-explores h js d = begun-by (normalised rs) (normalised-is rs) h js d
+
+  -- and the rules fit
+  pub walk-fits : (h : Held) (js : List ℕ) → walkFrom way rs ≡ walked h js → normalised rs ≡ Terms (start rs)
+  unfolding walkFrom
+  walk-fits h js d = go (normalised rs) (normalised-is rs) d
+    where
+      go : (v : Vector) → Is v (start rs) → onFrom way (beginBy way v) ≡ walked h js → v ≡ Terms (start rs)
+      go TooLong p f = absurd (no-walk f)
+      go (Terms v) p f = ap Terms p
 
 -- ---- every text
 
@@ -112,6 +119,27 @@ module _ (way : Way) (rs : List Re) (h : Held) where
     vector-is = l .vector-on ∙ ap (deriveAll c) (a .vector-is) ∙ sym (derive-more (start rs) u c);
     not-later = not-later-trans (l .not-later) (not-later-snoc c (a .not-later));
   }
+
+  -- with one item more
+  pub arrived-added : (y : Item) (w : Text) (k : ℕ) → Arrived way rs h w k → Arrived way rs (added h y) w k
+  arrived-added y w k a =
+      let e = added-old h y k (a .inside) in
+      record {
+        inside = omega (arith, a .inside, added-count h y);
+        sheet-is = rw e (a .sheet-is);
+        vector-is = rw e (a .vector-is);
+        not-later = rw e (a .not-later);
+      }
+
+  pub arrived-new : (y : Item) → Led way rs y → Arrived way rs (added h y) (y .text) (count h)
+  arrived-new y l =
+      let e = added-new h y in
+      record {
+        inside = omega (arith, added-count h y);
+        sheet-is = rw e (l .sheet-is);
+        vector-is = rw e (l .vector-is);
+        not-later = rw e (equal refl);
+      }
 
 module _ (way : Way) (rs : List Re) (h : Held) (js : List ℕ) (x : Explored way rs h js) where
   arrive-on : (w u : Text) (i : ℕ) → Bytes w → Arrived way rs h u i → Arrived way rs h (u ++ w) (reach (target js) i w)

@@ -1,7 +1,7 @@
 -- What every step keeps, the whole walk keeps: one induction over the walk, for what is held and for its refusals.
 -- By it the pool of a finished walk holds the parts of every held vector, each once, and no more than the limit.
 use Prim.Native.Nat.{ℕ, zero, suc, _+_, _<_, _≤_}
-use mathlib.Core.Path.{_≡_, refl, sym, ap, subst, _∙_}
+use mathlib.Core.Path.{_≡_, refl, subst}
 use mathlib.Core.Bool.{Bool, true, false, cond}
 use mathlib.Core.List.{List, [], _∷_}
 use mathlib.Core.Logic.{inl, inr}
@@ -10,7 +10,6 @@ use borrow.Author.Tests.{ltb-true}
 use lib.Dec.{ltb}
 use lib.ListN.{length}
 use Rattle.number.specs.declared.Refusal.{Refusal}
-use Rattle.number.specs.declared.Refusal.the-variants.{Pool}
 use Rattle.number.specs.Limits.{bytes, pool}
 use Rattle.meaning.specs.Re.{Re}
 use Rattle.meaning.specs.Tests.{clash}
@@ -18,7 +17,7 @@ use Rattle.walk.specs.Vectors.{Vector, derived, normalised}
 use Rattle.walk.specs.Vectors.Vector.{TooLong, Terms}
 use Rattle.walk.specs.Parts.{holds, PartOf, Once, Held as Pool·held}
 use Rattle.walk.specs.PartsLaws.{vector-hold, vector-once}
-use Rattle.walk.specs.Walk.{Item, Held, nothingHeld, numberIn, Step, Way, added, come, after, comeBy, step, Walked, prepend, row, rows, beginBy, onFrom, walkFrom}
+use Rattle.walk.specs.Walk.{Item, Held, nothingHeld, Step, Way, added, after, comeBy, step, Walked, prepend, row, rows, beginBy, onFrom, walkFrom}
 use Rattle.walk.specs.Walk.Step.{stopped, reached}
 use Rattle.walk.specs.Walk.Walked.{halted, walked}
 use Rattle.walk.specs.StepLaws.{item, count, added-old, added-new, added-count, each-added, Moved, step-moved, Came, came}
@@ -133,7 +132,7 @@ pooled-added h y p l = record {
 pooled-come : (way : Way) (place : ℕ) (h : Held) (y : Item) → Pooled h → {s : Step} → Came way place h y s → StepIs Pooled (λ r. Unit {0}) s
 pooled-come way place h y p (held j l q n) = p
 pooled-come way place h y p (full n l) = tt
-pooled-come way place h y p (over n l) = tt
+pooled-come way place h y p (over n l o) = tt
 pooled-come way place h y p (new n l o) = pooled-added h y p o
 
 pub pooled-step : (way : Way) (i c : ℕ) (h : Held) → i < count h → c < bytes → Pooled h → StepIs Pooled (λ r. Unit {0}) (step way i h c)

@@ -6,8 +6,8 @@ use mathlib.Core.Bool.{Bool, true, false, cond, _&&_}
 use mathlib.Core.List.{List, [], _∷_, _++_, map, append-assoc}
 use native.Mathlib.Omega.{arith}
 use borrow.Author.Tests.{lt-ltb}
-use lib.Dec.{ltb, eqb}
-use lib.ListN.{length, getD, replicate, length-append, List·getD-append}
+use lib.Dec.{eqb}
+use lib.ListN.{length, replicate, length-append, List·getD-append}
 use Rattle.number.specs.declared.Refusal.{Refusal}
 use Rattle.meaning.specs.Re.{Re}
 use Rattle.meaning.specs.Limited.{Fit, derivFit}
@@ -18,7 +18,7 @@ use Rattle.walk.specs.Vectors.Vector.{TooLong, Terms}
 use Rattle.walk.specs.Walk.{Item, none, Held, samePair, numberIn, Step, Way, added, come, after, comeBy, step, Walked, prepend, row}
 use Rattle.walk.specs.Walk.Step.{stopped, reached}
 use Rattle.walk.specs.Walk.Walked.{halted, walked}
-use Rattle.walk.specs.StepLaws.{item, count, Pair, same-pair, Came, came, reached-held, reached-number, no-reach}
+use Rattle.walk.specs.StepLaws.{item, count, same-pair, Came, came, reached-held, reached-number, no-reach}
 use Rattle.walk.specs.StepLaws.Came.{held, full, over, new}
 
 -- ---- the vector after another byte of the run is the same
@@ -64,7 +64,7 @@ module _ (way : Way) (place place₁ : ℕ) (h : Held) (x z : Item) (p : x .shee
       subst (λ (g : Held). come way place₁ g z ≡ reached g j) (reached-held e)
       (rw (o, lt-ltb k (count h) l) (ap (reached h) (reached-number e)))
   come-once-more (full n l) h₁ j e = absurd (no-reach e)
-  come-once-more (over n l) h₁ j e = absurd (no-reach e)
+  come-once-more (over n l u) h₁ j e = absurd (no-reach e)
   come-once-more (new n l u) h₁ j e =
       let o : numberIn (added h x .items) z ≡ count h = sym (number-alike (added h x .items) x z p q) ∙ number-last (h .items) x n in
       let m : count h < count (added h x) = omega (arith, length-append (h .items) (x ∷ [])) in
@@ -74,7 +74,7 @@ module _ (way : Way) (place place₁ : ℕ) (h : Held) (x z : Item) (p : x .shee
 came-item : (way : Way) (place i : ℕ) (h : Held) (x : Item) {s : Step} → Came way place h x s → (h₁ : Held) (j : ℕ) → s ≡ reached h₁ j → i < count h → item h₁ i ≡ item h i
 came-item way place i h x (held k l m n) h₁ j e f = ap (λ (g : Held). item g i) (sym (reached-held e))
 came-item way place i h x (full n l) h₁ j e f = absurd (no-reach e)
-came-item way place i h x (over n l) h₁ j e f = absurd (no-reach e)
+came-item way place i h x (over n l u) h₁ j e f = absurd (no-reach e)
 came-item way place i h x (new n l u) h₁ j e f = ap (λ (g : Held). item g i) (sym (reached-held e)) ∙ List·getD-append (h .items) (x ∷ []) none i f
 
 -- ---- one more byte of the run

@@ -1,8 +1,8 @@
 -- One step of the walk: where it is no refusal, it comes to an item that is held already, or to a new one at the end.
 -- Either way the item is the one that the byte leads to, and items that were held stay as they are.
 use Prim.Native.Nat.{ℕ, zero, suc, _+_, _<_, _≤_}
-use mathlib.Core.Path.{_≡_, refl, sym, ap, subst, _∙_}
-use mathlib.Core.Bool.{Bool, true, false, cond, _&&_}
+use mathlib.Core.Path.{_≡_, refl, ap, _∙_}
+use mathlib.Core.Bool.{Bool, true, false, cond}
 use mathlib.Core.List.{List, [], _∷_, _++_, map}
 use native.Mathlib.Omega.{arith}
 use native.Mathlib.Decide.{decLt}
@@ -11,16 +11,15 @@ use lib.Dec.{ltb, leb, eqb}
 use lib.ListN.{length, getD, length-append, List·getD-append}
 use lib.Seq.{getD-append-seam}
 use Rattle.number.specs.declared.Refusal.{Refusal}
-use Rattle.number.specs.declared.Refusal.the-variants.{Long, Pool}
+use Rattle.number.specs.declared.Refusal.the-variants.{Pool}
 use Rattle.number.specs.Limits.{pool}
-use Rattle.meaning.specs.Re.{Re, Text}
-use Rattle.meaning.specs.Normal.{normal}
+use Rattle.meaning.specs.Re.{Re}
 use Rattle.meaning.specs.Derive.{deriv}
 use Rattle.meaning.specs.Tests.{clash, and-true, true-and}
-use Rattle.walk.specs.Vectors.{Vector, derived, normalised, sameVector}
+use Rattle.walk.specs.Vectors.{Vector, derived, sameVector}
 use Rattle.walk.specs.Vectors.Vector.{TooLong, Terms}
-use Rattle.walk.specs.VectorLaws.{Is, derived-is, normalised-is, vector-same, vector-self}
-use Rattle.walk.specs.Walk.{Item, none, Held, nothingHeld, samePair, numberIn, Step, Way, added, come, after, comeBy, step, beginBy}
+use Rattle.walk.specs.VectorLaws.{Is, derived-is, vector-same, vector-self}
+use Rattle.walk.specs.Walk.{Item, none, Held, samePair, numberIn, Step, Way, added, come, after, comeBy, step}
 use Rattle.walk.specs.Walk.Step.{stopped, reached}
 
 abbrev pub item : Held → ℕ → Item
@@ -120,7 +119,7 @@ module _ (way : Way) (place : ℕ) (h : Held) (y : Item) where
   pub data Came : Step → Type 0 where
     held : (j : ℕ) → j < count h → Pair (item h j) y → j ≡ numberIn (h .items) y → Came (reached h j)
     full : Unmet h y → way .limit ≤ count h → Came (stopped (way .full place))
-    over : Unmet h y → pool < length (added h y .pool) → Came (stopped (Pool place))
+    over : Unmet h y → count h < way .limit → pool < length (added h y .pool) → Came (stopped (Pool place))
     new : Unmet h y → count h < way .limit → length (added h y .pool) ≤ pool → Came (reached (added h y) (count h))
 
   pub came : Came (come way place h y)
@@ -135,7 +134,7 @@ module _ (way : Way) (place : ℕ) (h : Held) (y : Item) where
           → Came (cond b (reached h (numberIn (h .items) y)) (cond d (stopped (way .full place)) (cond f (stopped (Pool place)) (reached (added h y) (count h)))))
       go true e d g f k = let l = ltb-true (numberIn (h .items) y) (count h) e in held (numberIn (h .items) y) l (number-pair (h .items) y l) refl
       go false e true g f k = full (unmet e) (leb-true (way .limit) (count h) g)
-      go false e false g true k = over (unmet e) (ltb-true pool (length (added h y .pool)) k)
+      go false e false g true k = over (unmet e) (leb-false (way .limit) (count h) g) (ltb-true pool (length (added h y .pool)) k)
       go false e false g false k = new (unmet e) (leb-false (way .limit) (count h) g) (ltb-false pool (length (added h y .pool)) k)
 
 pub reached-held : {h h′ : Held} {j j′ : ℕ} → reached h j ≡ reached h′ j′ → h ≡ h′
@@ -153,7 +152,7 @@ module _ (way : Way) (i : ℕ) (h : Held) (x : Item) (c : ℕ) where
   moved-by y p q t (held k l m n) h′ j e =
       rw (← reached-held e, ← reached-number e) (again k l (m .same-sheet ∙ p) (m .same-vector ∙ q))
   moved-by y p q t (full n l) h′ j e = absurd (no-reach e)
-  moved-by y p q t (over n l) h′ j e = absurd (no-reach e)
+  moved-by y p q t (over n l o) h′ j e = absurd (no-reach e)
   moved-by y p q t (new n l o) h′ j e = rw (← reached-held e, ← reached-number e) (fresh y p q t l n)
 
   come-moved : (v : Vector) → Is v (map (deriv c) (x .vector)) → item h i ≡ x → (h′ : Held) (j : ℕ) → comeBy way i h c v ≡ reached h′ j → Moved way x c h h′ j

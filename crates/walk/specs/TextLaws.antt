@@ -2,13 +2,13 @@
 -- The walk finds its items by texts that rise in this order.
 use Prim.Native.Nat.{ℕ, zero, suc, _+_, _<_, _≤_}
 use mathlib.Core.Path.{_≡_, refl, sym, ap, subst, _∙_}
-use mathlib.Core.List.{List, [], _∷_, _++_, append-nil}
+use mathlib.Core.List.{[], _∷_, _++_, append-nil}
 use mathlib.Core.Logic.{_⊎_, inl, inr}
 use native.Mathlib.Omega.{arith}
 use native.Mathlib.Decide.{decLt}
 use native.Mathlib.Nat.{lt-trans}
-use lib.ListN.{length, take, drop, length-append, length-take, length-drop}
-use lib.Seq.{take-all}
+use lib.ListN.{length, getD, take, drop, length-append, length-take, length-drop}
+use lib.Seq.{take-all, take-at, getD-at, getD-append-seam}
 use Rattle.meaning.specs.Re.{Text}
 use Rattle.walk.specs.Texts.{Lower, Sooner, NotLater}
 use Rattle.walk.specs.Texts.Lower.{here, later}
@@ -17,6 +17,20 @@ use Rattle.walk.specs.Texts.NotLater.{equal, sooner}
 
 pub length-snoc : (w : Text) (c : ℕ) → length (w ++ (c ∷ [])) ≡ suc (length w)
 length-snoc w c = let e = length-append w (c ∷ []) in omega arith
+
+-- a text with a byte behind it is not empty, and its front and its last byte are its own
+pub snoc-some : (w : Text) (c : ℕ) → w ++ (c ∷ []) ≡ [] → ⊥
+snoc-some w c e = let l = sym (length-snoc w c) ∙ ap length e in omega arith
+
+pub snoc-front : (v w : Text) (c d : ℕ) → v ++ (c ∷ []) ≡ w ++ (d ∷ []) → v ≡ w
+snoc-front v w c d e =
+    let l : length w ≡ length v = omega (arith, sym (length-snoc v c) ∙ ap length e ∙ length-snoc w d) in
+    sym (take-at v (c ∷ []) (length v) refl) ∙ ap (take (length v)) e ∙ take-at w (d ∷ []) (length v) l
+
+pub snoc-last : (v w : Text) (c d : ℕ) → v ++ (c ∷ []) ≡ w ++ (d ∷ []) → c ≡ d
+snoc-last v w c d e =
+    let l : length w ≡ length v = omega (arith, sym (length-snoc v c) ∙ ap length e ∙ length-snoc w d) in
+    sym (getD-append-seam v c [] 0) ∙ ap (λ (u : Text). getD u (length v) 0) e ∙ getD-at w d [] 0 (length v) l
 
 lower-trans : {u v w : Text} → Lower u v → Lower v w → Lower u w
 lower-trans (here h) (here k) = here (lt-trans h k)

@@ -1,8 +1,8 @@
 -- Vectors: where a derived or normalised vector is no refusal, it is the unlimited one; the tests of sameness say equality.
 -- The limited and the unlimited forms of a term are meaning's LimitedLaws.
 use Prim.Native.Nat.{ℕ, Ordering, Ordering·lt, Ordering·eq, Ordering·gt}
-use mathlib.Core.Path.{_≡_, refl, sym, ap, _∙_}
-use mathlib.Core.Bool.{Bool, true, false, _&&_}
+use mathlib.Core.Path.{_≡_, refl, ap}
+use mathlib.Core.Bool.{true}
 use mathlib.Core.List.{List, [], _∷_, map}
 use native.Mathlib.Omega.{arith}
 use lib.Dec.{isEq}

@@ -13,7 +13,7 @@ use Rattle.walk.specs.Vectors.{Vector, derived, normalised, sameVector}
 use Rattle.walk.specs.Vectors.Vector.{TooLong, Terms}
 use Rattle.walk.specs.Parts.{withVector}
 
--- an item: a state of the sheet, a vector, and the text that led to them first
+-- an item: where the sheet stands, as its way numbers that, a vector, and the text that led to them first
 pub record Item : Type 0 where
   pub sheet : ℕ
   pub vector : List Re

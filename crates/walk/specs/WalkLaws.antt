@@ -1,9 +1,9 @@
 -- The walk explores: every item is what its text leads to, texts rise in the order found, and each byte leads from item to item.
 -- So every text leads to an item whose text is not later than it, which is what building and comparing rest on.
-use Prim.Native.Nat.{ℕ, zero, suc, _+_, _*_, _-_, _<_, _≤_}
+use Prim.Native.Nat.{ℕ, zero, suc, _+_, _*_, _<_, _≤_}
 use mathlib.Core.Path.{_≡_, refl, sym, ap, subst, _∙_}
 use mathlib.Core.Bool.{Bool, true, false, cond}
-use mathlib.Core.List.{List, [], _∷_, _++_, map, append-assoc, append-nil}
+use mathlib.Core.List.{List, [], _∷_, _++_}
 use native.Mathlib.Omega.{arith}
 use native.Mathlib.Decide.{decLt}
 use borrow.Author.Tests.{ltb-true, ltb-false}
@@ -14,25 +14,20 @@ use Rattle.number.specs.declared.Refusal.{Refusal}
 use Rattle.number.specs.Limits.{bytes}
 use Rattle.number.specs.Numbers.{Bytes}
 use Rattle.meaning.specs.Re.{Re, Text}
-use Rattle.meaning.specs.Normal.{normal}
-use Rattle.meaning.specs.Derive.{deriv}
 use Rattle.meaning.specs.Rules.{deriveAll, deriveBy, start}
 use Rattle.meaning.specs.Words.{reach}
-use Rattle.walk.specs.Vectors.{Vector, normalised}
-use Rattle.walk.specs.Vectors.Vector.{TooLong, Terms}
-use Rattle.walk.specs.VectorLaws.{Is, normalised-is}
-use Rattle.walk.specs.Walk.{Item, none, Held, nothingHeld, numberIn, Step, Way, added, come, step, Walked, prepend, row, rows, beginBy, onFrom, walkFrom}
+use Rattle.walk.specs.Walk.{Item, Held, numberIn, Step, Way, added, come, step, Walked, prepend, row, rows}
 use Rattle.walk.specs.Walk.Step.{stopped, reached}
 use Rattle.walk.specs.Walk.Walked.{halted, walked}
-use Rattle.walk.specs.StepLaws.{item, count, Pair, same-pair, added-old, added-new, added-count, each-added, pairs-added, Moved, step-moved, number-after, Fits, step-fits}
+use Rattle.walk.specs.StepLaws.{item, count, Pair, added-old, added-new, added-count, each-added, pairs-added, Moved, step-moved, number-after, Fits, step-fits}
 use Rattle.walk.specs.StepLaws.Moved.{again, fresh}
 use Rattle.walk.specs.Texts.{Sooner, NotLater}
 use Rattle.walk.specs.Texts.NotLater.{equal, sooner}
-use Rattle.walk.specs.TextLaws.{sooner-trans, sooner-snoc, not-later-snoc, not-later-trans, sooner-last, empty-first, length-snoc}
+use Rattle.walk.specs.TextLaws.{sooner-trans, sooner-snoc, sooner-last, length-snoc}
 
 -- ---- texts with one byte more
 
-bytes-more : (w : Text) (c : ℕ) → Bytes w → c < bytes → Bytes (w ++ (c ∷ []))
+pub bytes-more : (w : Text) (c : ℕ) → Bytes w → c < bytes → Bytes (w ++ (c ∷ []))
 bytes-more w c b h i k =
     elim (decLt i (length w)) [
       | yes l ↦ rw (List·getD-append w (c ∷ []) 0 i l) (b i l)
