@@ -1,5 +1,5 @@
 -- Pairs, told of texts and by the walk: its items are the pairs in the order of their first texts, and the number told for one is the pair's.
--- The entry and the start's return are one pair, with number 0; no two items past the entry are.
+-- The entry and the start's return are one pair, with number 0; no two items past the entry are one pair.
 use Prim.Native.Nat.{ℕ, zero, suc, _-_, _<_, _≤_}
 use mathlib.Core.Path.{_≡_, refl, sym, ap, subst, _∙_}
 use mathlib.Core.Bool.{cond}

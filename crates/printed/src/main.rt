@@ -127,6 +127,9 @@ fn comparisons() {
         b"a.book",
         b"a.sheet",
     );
+}
+
+fn refused_comparisons() {
     compare(b"compare: no book\n", b"no.book", b"own.sheet");
     compare(
         b"compare: no sheet, and a book that ends a byte early\n",
@@ -153,6 +156,7 @@ fn comparisons() {
 fn main() {
     cuts();
     comparisons();
+    refused_comparisons();
     sheet(b"sheet: the sample\n", b"w.book");
     sheet(b"sheet: a book that ends a byte early\n", b"early.book");
     sheet(b"sheet: no book\n", b"no.book");
