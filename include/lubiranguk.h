@@ -16,7 +16,7 @@
    table, labels has at least LUBI_STATES cells and targets LUBI_TARGETS; where a call reads one, as many as its count asks for.
    A work area has at least LUBI_WORK cells of 64 bits, and a text area at least LUBI_TEXT bytes. No length is too long.
    What a work area holds before a call does not matter; afterwards it is all 0, but after LUBI_ROOM, which changes no area.
-   Building and comparing keep some 82,000 bytes of their own on the stack besides. */
+   Building and comparing keep some 98,000 bytes of their own on the stack besides. */
 #ifndef LUBIRANGUK_H
 #define LUBIRANGUK_H
 
@@ -31,10 +31,11 @@ enum {
     LUBI_ANSWER = 4,      /* numbers of an answer */
     LUBI_RECORD = 3,      /* cells of a word: start, length, rule */
     LUBI_RULES = 32,      /* rules of a book */
-    LUBI_STATES = 128,    /* states of a table, and cells of its labels */
-    LUBI_TARGETS = 32768, /* cells of its targets */
-    LUBI_WORK = 53027,    /* cells of a work area */
-    LUBI_TEXT = 256       /* bytes of a text area */
+    LUBI_STATES = 255,    /* states of a table, and cells of its labels */
+    LUBI_TARGETS = 65280, /* cells of its targets */
+    LUBI_SHEET = 196608,  /* bytes of the longest sheet there is: so many hold any */
+    LUBI_WORK = 63011,    /* cells of a work area */
+    LUBI_TEXT = 512       /* bytes of a text area */
 };
 
 /* codes */
@@ -116,7 +117,7 @@ size_t lubi_cut_from(size_t count, const uint8_t *labels, size_t labels_length, 
    some non-empty text leads back to the start, since words are never empty.
    Refuses LUBI_ROOM first, where the text area or the work area is below full size, and then changes neither; else LUBI_LOADED, where
    the table is not well formed, then what is wrong in the book, at the byte where it is wrong (1 to 5), then LUBI_LONG, LUBI_PAIRS or
-   LUBI_POOL, at the number of the pair that was being left (0 for the start, and 1 to 256 in the order found), and then leaves the text
+   LUBI_POOL, at the number of the pair that was being left (0 for the start, and 1 to 512 in the order found), and then leaves the text
    area all 0. */
 size_t lubi_compare(const uint8_t *book, size_t book_length, size_t count, const uint8_t *labels, size_t labels_length,
     const uint8_t *targets, size_t targets_length, uint8_t *text_area, size_t text_length, uint64_t *work, size_t work_length,

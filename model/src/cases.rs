@@ -2,10 +2,10 @@
 //! to give for them, written into numbered folders for a driver.
 
 use crate::book::Book;
-use crate::build::build;
+use crate::build::{alike, build, compare_by};
 use crate::damage::damage;
-use crate::edges::{bulk, crossing_book, filled};
-use crate::limits::{BOOK_FILE, SHEET_FILE, TEXT_FILE};
+use crate::edges::{crossing_book, filled, growing, remembering};
+use crate::limits::{Caps, BOOK_FILE, CAPS, PAIRS, POOL, RULES, SHEET_FILE, STATES, TEXT_FILE};
 use crate::prng::Rng;
 use crate::programs;
 use crate::random::{expr, heavy_book, joined_text, nearby_text, plain};
@@ -99,25 +99,29 @@ fn random_book(rng: &mut Rng) -> (&'static str, Book) {
         42..=52 => ("middling", small_book(rng, 8, 40)),
         53..=63 => ("scanner", scanner_book(rng)),
         64..=78 => ("wide", wide_book(rng)),
-        79..=96 => ("heavy", heavy_book(rng)),
+        79..=93 => ("heavy", heavy_book(rng)),
         _ => ("crowded", crowded_book(rng)),
     }
 }
 
-/// A book whose terms come near the limit on distinct ones, or just meet or pass it.
+/// A book whose terms come near the cap on distinct ones, or just meet or pass it.
 fn crowded_book(rng: &mut Rng) -> Book {
     if rng.chance(50) {
-        let mut exprs = bulk(rng.within(22, 25));
-        for i in 0..rng.within(0, 5) as u8 {
-            let letters = [33 + 3 * i, 34 + 3 * i, 35 + 3 * i];
-            let nodes = rng.within(6, 16);
-            exprs.push(plain(&expr(rng, &letters, nodes), letters));
-        }
-        return filled(exprs, 1_024 + rng.below(2));
+        let (back, round) = (rng.within(5, 7), rng.within(1, 5));
+        // A rule has about 2^(back + 1) terms, and no more rules have room in a book.
+        let rules = (POOL / (2 << back)).min(28) - rng.below(3);
+        return crossing_book(rules, back, round, rng.within(1, 10));
     }
-    let (back, round) = (rng.within(4, 6), rng.within(1, 5));
-    let rules = (1_000 / (2 << back)).min(27) - rng.below(3);
-    crossing_book(rules, back, round, rng.within(1, 10))
+    let mut exprs = match rng.chance(50) {
+        true => remembering(14, 6),
+        false => vec![growing(rng.within(57, 60) as u8)],
+    };
+    for i in 0..rng.within(0, 4) as u8 {
+        let letters = [33 + 3 * i, 34 + 3 * i, 35 + 3 * i];
+        let nodes = rng.within(6, 16);
+        exprs.push(plain(&expr(rng, &letters, nodes), letters));
+    }
+    filled(exprs, POOL + rng.below(2))
 }
 
 /// The bytes as they are, or damaged, or replaced, or not there.
@@ -184,20 +188,25 @@ fn random_text(rng: &mut Rng, book: &Book) -> (&'static str, Vec<u8>) {
 /// A sheet for a book: of its own build or changed from it, if it builds.
 fn random_sheet(rng: &mut Rng, book: &Book) -> (String, File) {
     let (name, table) = match build(book) {
-        Ok(table) => related_table(rng, &table),
+        Ok(table) => related_table(rng, book, &table),
         Err(_) => other_table(rng),
     };
     let (fault, file) = spoilt(rng, sheet::write(&table), SHEET_FILE);
     (format!("{name} sheet{fault}"), file)
 }
 
-fn related_table(rng: &mut Rng, table: &Table) -> (&'static str, Table) {
+fn related_table(rng: &mut Rng, book: &Book, table: &Table) -> (&'static str, Table) {
     let count = table.count();
     match rng.below(100) {
-        0..=13 => ("own", table.clone()),
+        0..=7 => ("own", table.clone()),
+        8..=10 => ("round", round_table(rng, book)),
+        11..=13 if count < STATES => ("deep", deep_table(rng, table)),
+        11..=13 => ("own", table.clone()),
         14..=24 => ("renumbered", sheets::shuffled(rng, table)),
         25..=32 => {
-            let more = rng.within(1, 4);
+            // A few states more, or as many as there may be and perhaps one.
+            let many = rng.chance(30) && count < STATES;
+            let more = if many { STATES - count + rng.below(2) } else { rng.within(1, 4) };
             let wider = sheets::with_spare(rng, table, more);
             ("wider", sheets::shuffled(rng, &wider))
         }
@@ -208,7 +217,7 @@ fn related_table(rng: &mut Rng, table: &Table) -> (&'static str, Table) {
         47..=62 => ("changed", sheets::changed(rng, table)),
         63..=66 => {
             let mut high = table.clone();
-            let label = rng.within(1, 33);
+            let label = rng.within(1, RULES + 1);
             high.labels[rng.below(count)] = label;
             ("relabelled", high)
         }
@@ -221,25 +230,51 @@ fn related_table(rng: &mut Rng, table: &Table) -> (&'static str, Table) {
 /// none does; perhaps changed elsewhere too.
 fn other_start(rng: &mut Rng, table: &Table) -> (&'static str, Table) {
     let table = if rng.chance(70) { table.clone() } else { sheets::changed(rng, table) };
-    let label = if rng.chance(50) { 0 } else { rng.within(1, 32) };
+    let label = if rng.chance(50) { 0 } else { rng.within(1, RULES) };
     match rng.chance(70) {
         true => ("start relabelled", sheets::relabelled(&table, b"", label)),
         false => ("start apart", sheets::apart(&table, label)),
     }
 }
 
+/// A clock, spread so far that about as many pairs as may be count with the book.
+fn round_table(rng: &mut Rng, book: &Book) -> Table {
+    let pairs = |round| {
+        let caps = Caps { pairs: 4 * PAIRS, ..CAPS };
+        let found = compare_by(book, &sheets::clock(round, 0), &alike(book), caps);
+        found.map_or(PAIRS, |found| found.pairs)
+    };
+    // Each state of a clock has about as many pairs as each of another one.
+    let each = (pairs(19) / 19).max(1);
+    let round = (PAIRS / each).saturating_sub(rng.below(9)).clamp(1, STATES);
+    let more = (PAIRS + rng.below(3)).saturating_sub(pairs(round) + 1);
+    sheets::clock(round, more.min(STATES - round))
+}
+
+/// The same table with as many states as there may be, or one that differs from it only
+/// after many bytes.
+fn deep_table(rng: &mut Rng, table: &Table) -> Table {
+    let mut deep = sheets::unrolled(table, STATES);
+    if rng.chance(70) {
+        deep.labels[STATES - 1 - table.count()] = rng.below(RULES + 1);
+    }
+    deep
+}
+
 fn other_table(rng: &mut Rng) -> (&'static str, Table) {
     match rng.below(10) {
         0..=3 => {
-            let count = *rng.pick(&[1, 1, 2, 3, 10, 40, 128]);
+            let count = *rng.pick(&[1, 1, 2, 3, 10, 40, 128, 129, 200, STATES - 1, STATES]);
             ("random", sheets::random(rng, count))
         }
         4 => {
-            let (round, dead) = (rng.within(1, 60), rng.within(1, 3));
+            let most = *rng.pick(&[60, STATES - 3]);
+            let (round, dead) = (rng.within(1, most), rng.within(1, 3));
             ("counter", sheets::counter(b'a', round, dead))
         }
         5 => {
-            let (round, spread) = (rng.within(1, 20), rng.within(0, 100));
+            let most = *rng.pick(&[100, STATES - 20]);
+            let (round, spread) = (rng.within(1, 20), rng.within(0, most));
             ("clock", sheets::clock(round, spread))
         }
         _ => match build(&small_book(rng, 3, 12)) {

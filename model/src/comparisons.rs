@@ -1,4 +1,4 @@
-//! The model's test of itself, third part: answers of comparisons are held against the
+//! The model's test of itself, fifth part: answers of comparisons are held against the
 //! cuts and labels of all short texts, and the count and numbers of pairs and every
 //! refusal against what the texts tell one by one.
 
@@ -6,14 +6,14 @@ use crate::book::Book;
 use crate::brute::{self, all_texts, Meaning};
 use crate::build::{alike, build, compare, compare_by, Answer};
 use crate::cut::first_word;
-use crate::limits::{Caps, CAPS};
+use crate::limits::{Caps, CAPS, RULES};
 use crate::prng::Rng;
 use crate::random::{looping_book, small_book};
 use crate::refusal::Fault;
 use crate::selftest::Checks;
 use crate::sheet::Table;
 use crate::sheets::{
-    apart, changed, clock, counter, merged, random, relabelled, shuffled, with_spare,
+    apart, changed, clock, counter, merged, random, relabelled, shuffled, unrolled, with_spare,
 };
 use crate::telling::{by_all_texts, by_least_texts};
 use std::collections::HashSet;
@@ -49,8 +49,9 @@ fn lowest_bytes(book: &Book, table: &Table) -> Vec<u8> {
 
 /// Comparisons of a book with its own table in other forms, and with other tables.
 pub fn answers(checks: &mut Checks, rng: &mut Rng, book: &Book, table: &Table) {
-    let (label, spare) = (rng.below(33), with_spare(rng, table, 2));
-    for own in [table.clone(), shuffled(rng, table), spare, apart(table, label)] {
+    let (label, spare) = (rng.below(RULES + 1), with_spare(rng, table, 2));
+    let deep = unrolled(table, table.count() + 9);
+    for own in [table.clone(), shuffled(rng, table), spare, apart(table, label), deep] {
         checks.check("what cuts alike is the same", compare(book, &own) == Ok(Answer::Same));
     }
     let count = table.count();

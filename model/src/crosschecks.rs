@@ -1,4 +1,4 @@
-//! The model's test of itself, second part: random books whose tables and cuts are held
+//! The model's test of itself, fourth part: random books whose tables and cuts are held
 //! against the sets of texts, and laws that hold for all books.
 
 use crate::book::{alt, cat, one, star, Book, Expr};
@@ -6,7 +6,7 @@ use crate::brute::{self, all_texts, Meaning};
 use crate::build::{alike, build, build_by, compare, compare_by, Answer, Built};
 use crate::comparisons;
 use crate::cut::{cut, cut_on, first_word, first_word_in, hopeful, End};
-use crate::limits::{Caps, BYTES, CAPS};
+use crate::limits::{Caps, BYTES, CAPS, POOL, SHOWN, TERM};
 use crate::prng::Rng;
 use crate::random::{heavy_book, joined_text, nearby_text, small_book, wide_book};
 use crate::refusal::{Fault, Refusal};
@@ -194,14 +194,15 @@ fn every_byte(checks: &mut Checks, rng: &mut Rng, book: &Book, built: &Result<Bu
 /// A book near the limits that builds: its size, a comparison and a cut.
 fn big_table(checks: &mut Checks, rng: &mut Rng, book: &Book, built: &Built) {
     let table = &built.table;
-    checks.check("the longest term is short", built.longest <= 255 && built.pool <= 1_024);
+    checks.check("the longest term is short", built.longest <= TERM && built.pool <= POOL);
     checks.check("own table is the same", compare(book, table) == Ok(Answer::Same));
     let other = sheets::changed(rng, table);
     match compare(book, &other) {
         Ok(Answer::Same) => {}
         Ok(Answer::Differs { text, book, sheet }) => {
             let right = table.label(&text) == book && other.label(&text) == sheet;
-            checks.check("a text that differs", right && book != sheet && !text.is_empty());
+            let shown = (1..=SHOWN).contains(&text.len());
+            checks.check("a text that differs", right && book != sheet && shown);
         }
         Err(refusal) => checks.check("only pairs run out", refusal.fault == Fault::Pairs),
     }

@@ -1,9 +1,9 @@
 //! Books and comparisons that just meet or just pass a limit of reading or of the walk,
-//! each with a name and what it has to give.
+//! or a cap as it was before it was raised, each with a name and what it has to give.
 
 use crate::book::{alt, cat, choice, literal, one, power, star, Book, Expr};
 use crate::build::{alike, build, build_by, Answer};
-use crate::limits::{Caps, CAPS};
+use crate::limits::{Caps, CAPS, OLDER};
 use crate::sheet::Table;
 use crate::sheets::{chain, clock, counter, lone};
 
@@ -12,32 +12,48 @@ pub fn row_of_a(times: usize) -> Expr {
     power(&one(b'a'), times)
 }
 
-/// Rules that remember the last letters: 38 terms each and 5 in common.
-pub fn bulk(rules: usize) -> Vec<Expr> {
+/// Rules that remember so many of the last letters and the one before them.
+pub fn remembering(rules: usize, back: usize) -> Vec<Expr> {
     let two = Expr::Range(b'a', b'b');
     let rule = |i: usize| {
-        let tail = cat(power(&two, 4), one(b'c' + i as u8));
+        let tail = cat(power(&two, back), one(b'c' + i as u8));
         cat(star(two.clone()), cat(one(b'a'), tail))
     };
     (0..rules).map(rule).collect()
 }
 
+/// Rules that remember four letters and one: 38 terms each and 5 in common.
+pub fn bulk(rules: usize) -> Vec<Expr> {
+    remembering(rules, 4)
+}
+
+/// A choice of which byte c leaves the first c members, a choice with parts of its own.
+pub fn growing(members: u8) -> Expr {
+    choice((1..=members).map(|i| cat(Expr::Range(i, 255), one(i))).collect())
+}
+
 /// Literals of bytes that nothing else has: 2j - 1 terms each.
-fn fresh_literals(lengths: &[usize]) -> Vec<Expr> {
+pub fn fresh_literals(lengths: &[usize]) -> Vec<Expr> {
     let mut fresh = (128..=255u8).chain(0..=31);
     let mut text = |&length: &usize| fresh.by_ref().take(length).collect::<Vec<u8>>();
     lengths.iter().map(|length| literal(&text(length))).collect()
 }
 
+/// Rules that remember so many letters and one, then literals.
+pub fn memory_book(rules: usize, back: usize, lengths: &[usize]) -> Book {
+    Book::of([remembering(rules, back), fresh_literals(lengths)].concat())
+}
+
 /// Rules in bulk, then literals.
 pub fn pool_book(rules: usize, lengths: &[usize]) -> Book {
-    Book::of([bulk(rules), fresh_literals(lengths)].concat())
+    memory_book(rules, 4, lengths)
 }
 
 /// The rules with literals added that bring the distinct terms of the whole walk to
 /// exactly the given number, if they are fewer.
 pub fn filled(exprs: Vec<Expr>, terms: usize) -> Book {
     let book = Book::of(exprs.clone());
+    // The count has to end whatever the caps of a walk are.
     let caps = Caps { states: 2_000, pool: 20_000, ..CAPS };
     let held = build_by(&book, &alike(&book), caps).map_or(terms, |built| built.pool);
     let missing = terms.saturating_sub(held);
@@ -70,16 +86,11 @@ pub fn order_gadgets() -> Vec<Expr> {
     vec![first, second, third, fourth, fifth]
 }
 
-/// Rules that remember more letters, a rule that counts letters and a literal: the
-/// 129th vector comes while the terms run out.
+/// Rules that remember more letters, a rule that counts letters and a literal: states
+/// and terms run out at about the same time.
 pub fn crossing_book(rules: usize, back: usize, round: usize, length: usize) -> Book {
-    let two = Expr::Range(b'a', b'b');
-    let mut exprs = Vec::new();
-    for i in 0..rules {
-        let tail = cat(power(&two, back), one(b'c' + i as u8));
-        exprs.push(cat(star(two.clone()), cat(one(b'a'), tail)));
-    }
-    exprs.push(star(power(&two, round)));
+    let mut exprs = remembering(rules, back);
+    exprs.push(star(power(&Expr::Range(b'a', b'b'), round)));
     exprs.push(literal(&(128..128 + length as u8).collect::<Vec<u8>>()));
     Book::of(exprs)
 }
@@ -91,7 +102,7 @@ pub struct Edge {
     pub expect: &'static str,
 }
 
-fn edge(name: &'static str, exprs: Vec<Expr>, expect: &'static str) -> Edge {
+pub fn edge(name: &'static str, exprs: Vec<Expr>, expect: &'static str) -> Edge {
     Edge { name, book: Book::of(exprs), expect }
 }
 
@@ -144,7 +155,7 @@ pub fn long() -> Vec<Edge> {
         edge("128 bytes, 255 nodes", vec![wide()], "3 states, 257 terms"),
         edge("their star, 256 nodes", vec![star(wide())], "refused 6 0"),
         edge("a^64 | b^63, 253 nodes", vec![alt(a(64), b63)], "128 states, 130 terms"),
-        edge("a^64 | b^64, 255 nodes", vec![alt(a(64), b64.clone())], "refused 8 126"),
+        edge("a^64 | b^64, 255 nodes", vec![alt(a(64), b64.clone())], "129 states, 131 terms"),
         edge("a^64 | b^64 | c, 257 nodes", vec![alt(alt(a(64), b64), one(b'c'))], "refused 6 0"),
         edge("derivative of 255 nodes", looped(even, star(one(b'z'))), "65 states, 134 terms"),
         edge("derivative of 256 nodes", looped(a(63), one(b'z')), "refused 6 0"),
@@ -160,45 +171,46 @@ pub fn long() -> Vec<Edge> {
     ]
 }
 
-/// Books whose walk meets or passes States.
+/// Books whose walk meets or passes the older States.
 pub fn states() -> Vec<Edge> {
     let a = row_of_a;
     let b = |times: usize| power(&one(b'b'), times);
     let any = || star(Expr::Range(0, 255));
     vec![
         edge("a^126", vec![a(126)], "128 states, 128 terms"),
-        edge("a^127", vec![a(127)], "refused 8 127"),
-        edge("a^128", vec![a(128)], "refused 8 127"),
-        edge("a^126, b^127", vec![a(126), b(127)], "refused 8 126"),
+        edge("a^127", vec![a(127)], "129 states, 129 terms"),
+        edge("a^128", vec![a(128)], "130 states, 130 terms"),
+        edge("a^126, b^127", vec![a(126), b(127)], "255 states, 255 terms"),
         edge("a^63, b^63", vec![a(63), b(63)], "128 states, 128 terms"),
-        edge("a^63, b^64", vec![a(63), b(64)], "refused 8 127"),
+        edge("a^63, b^64", vec![a(63), b(64)], "129 states, 129 terms"),
         edge("any text, a^126", vec![any(), a(126)], "128 states, 130 terms"),
-        edge("any text, a^127", vec![any(), a(127)], "refused 8 127"),
+        edge("any text, a^127", vec![any(), a(127)], "129 states, 131 terms"),
         edge("(a^9)*, (a^14)*", vec![star(a(9)), star(a(14))], "127 states, 38 terms"),
-        edge("(a^11)*, (a^12)*", vec![star(a(11)), star(a(12))], "refused 8 127"),
+        edge("(a^11)*, (a^12)*", vec![star(a(11)), star(a(12))], "133 states, 36 terms"),
     ]
 }
 
-/// Books whose walk meets or passes Pool, and books that pass States and Pool at the
-/// same step.
+/// Books whose walk meets or passes the older Pool, and books that pass it at the same
+/// step as the older States.
 pub fn pool() -> Vec<Edge> {
     let made = |name, book, expect| Edge { name, book, expect };
     let gadgets = |rules| [order_gadgets(), bulk(rules)].concat();
+    let most = OLDER.pool;
     vec![
-        made("by order, 1024", filled(gadgets(24), 1_024), "96 states, 1024 terms"),
-        made("by order, 1025", filled(gadgets(24), 1_025), "refused 7 46"),
-        made("by order, 1024 again", filled(gadgets(23), 1_024), "114 states, 1024 terms"),
-        made("by order, 1025 again", filled(gadgets(23), 1_025), "refused 7 46"),
+        made("by order, 1024", filled(gadgets(24), most), "96 states, 1024 terms"),
+        made("by order, 1025", filled(gadgets(24), most + 1), "97 states, 1025 terms"),
+        made("by order, 1024 again", filled(gadgets(23), most), "114 states, 1024 terms"),
+        made("by order, 1025 again", filled(gadgets(23), most + 1), "115 states, 1025 terms"),
         made("26 + [16]", pool_book(26, &[16]), "76 states, 1024 terms"),
-        made("26 + [8, 9]", pool_book(26, &[8, 9]), "refused 7 26"),
+        made("26 + [8, 9]", pool_book(26, &[8, 9]), "77 states, 1025 terms"),
         made("25 + [10, 12, 14]", pool_book(25, &[10, 12, 14]), "95 states, 1024 terms"),
-        made("25 + [17, 19]", pool_book(25, &[17, 19]), "refused 7 26"),
+        made("25 + [17, 19]", pool_book(25, &[17, 19]), "95 states, 1025 terms"),
         made("24 + [18, 18, 19]", pool_book(24, &[18, 18, 19]), "113 states, 1024 terms"),
-        made("24 + [27, 28]", pool_book(24, &[27, 28]), "refused 7 26"),
-        made("27 + []", pool_book(27, &[]), "refused 7 16"),
-        made("10 rules, States and Pool", crossing_book(10, 6, 2, 1), "refused 8 65"),
-        made("12 rules, States and Pool", crossing_book(12, 6, 3, 2), "refused 8 66"),
-        made("13 rules, States and Pool", crossing_book(13, 6, 4, 1), "refused 8 65"),
+        made("24 + [27, 28]", pool_book(24, &[27, 28]), "113 states, 1025 terms"),
+        made("27 + []", pool_book(27, &[]), "60 states, 1031 terms"),
+        made("10 rules, past both older caps", crossing_book(10, 6, 2, 1), "refused 8 124"),
+        made("12 rules, past both older caps", crossing_book(12, 6, 3, 2), "refused 8 123"),
+        made("13 rules, past both older caps", crossing_book(13, 6, 4, 1), "refused 8 123"),
     ]
 }
 
@@ -229,7 +241,7 @@ pub fn rule(expr: Expr) -> Book {
     Book::of(vec![expr])
 }
 
-/// Comparisons that meet or pass a limit, or whose text is long.
+/// Comparisons that meet or pass a limit or an older cap, or whose text is long.
 pub fn meetings() -> Vec<Meeting> {
     let a = row_of_a;
     let fifteen = || rule(star(a(15)));
@@ -241,7 +253,7 @@ pub fn meetings() -> Vec<Meeting> {
     let (crossing, pool) = (crossing_book(8, 6, 1, 1), pool_book(26, &[8, 9]));
     vec![
         meet("256 pairs", fifteen(), counter(b'a', 17, 1), differs(&[b'a'; 15], 1, 0)),
-        meet("257 pairs", fifteen(), counter(b'a', 17, 2), "refused 12 256\n"),
+        meet("257 pairs", fifteen(), counter(b'a', 17, 2), differs(&[b'a'; 15], 1, 0)),
         meet("15 against 15", fifteen(), counter(b'a', 15, 2), "same\n"),
         meet("a^127 by a^126", rule(a(127)), chained, differs(&[b'a'; 126], 0, 1)),
         meet("any, a^127 by one state", endless, lone(1), "same\n"),
@@ -251,7 +263,7 @@ pub fn meetings() -> Vec<Meeting> {
         meet("Long at vector 0", rule(a(129)), lone(0), "refused 6 0\n"),
         meet("Long at pair 2", late(), lone(0), "refused 6 2\n"),
         meet("Long at pair 5", late(), counter(b'x', 3, 4), "refused 6 5\n"),
-        meet("Pool", pool, lone(0), "refused 7 26\n"),
-        meet("Pool, one pair before Pairs", crossing, clock(8, 66), "refused 7 163\n"),
+        meet("1025 terms", pool, lone(0), differs(b"aaaaac", 1, 0)),
+        meet("1025 terms, then 257 pairs", crossing, clock(8, 66), "refused 12 357\n"),
     ]
 }

@@ -14,12 +14,14 @@ pub const NODES: usize = 512;
 /// Greatest number of tree nodes in a term.
 pub const TERM: usize = 255;
 /// Greatest number of states in a table.
-pub const STATES: usize = 128;
+pub const STATES: usize = 255;
 /// Greatest number of distinct terms in the held vectors and their parts.
-pub const POOL: usize = 1_024;
+pub const POOL: usize = 2_048;
 /// Greatest number of pairs that a comparison counts: those that a non-empty text leads to.
-pub const PAIRS: usize = 256;
-/// The three caps on what a walk holds, in one value so that the selftest can try others.
+pub const PAIRS: usize = 512;
+/// Length of the area for a shown text, and so of the longest one.
+pub const SHOWN: usize = 512;
+/// The three caps on what a walk holds, in one value so that others can be tried.
 #[derive(Clone, Copy, Debug)]
 pub struct Caps {
     pub states: usize,
@@ -28,6 +30,9 @@ pub struct Caps {
 }
 /// The caps of the specification.
 pub const CAPS: Caps = Caps { states: STATES, pool: POOL, pairs: PAIRS };
+/// The caps before they were raised. Older readers of sheets have them still, and the
+/// cases that stood just below and above them stay, as ordinary ones.
+pub const OLDER: Caps = Caps { states: 128, pool: 1_024, pairs: 256 };
 /// Number of bytes there are: the targets of one state, the sum of its runs.
 pub const BYTES: usize = 256;
 /// Greatest length of the file words.book.

@@ -4,6 +4,7 @@
 mod book;
 mod brute;
 mod build;
+mod capchecks;
 mod cases;
 mod comparisons;
 mod crosschecks;
@@ -13,12 +14,17 @@ mod edges;
 mod faults;
 mod limits;
 mod number;
+mod printed;
 mod prng;
 mod programs;
+mod raised_builds;
+mod raised_meetings;
+mod raised_sheets;
 mod random;
 mod refusal;
 mod selftest;
 mod sheet;
+mod sheetchecks;
 mod sheets;
 mod starts;
 mod stored;
@@ -71,7 +77,7 @@ fn run(words: &[&str]) -> io::Result<bool> {
             cases::put_cases(count, seed, Path::new(folder))?;
         }
         ["stored", folder] => stored::put_stored(Path::new(folder))?,
-        ["limits"] => selftest::print_limits(),
+        ["limits"] => capchecks::print_limits(),
         ["selftest"] => return Ok(selftest::run()),
         _ => return Err(io::Error::other(USAGE)),
     }

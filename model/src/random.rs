@@ -3,6 +3,7 @@
 //! the limits of a build.
 
 use crate::book::{alt, cat, choice, literal, one, power, star, Book, Expr, Rule};
+use crate::limits::{KIND, NODES, RULES};
 use crate::prng::Rng;
 
 /// A rising list of a few bytes, from which an expression or a text is made.
@@ -73,8 +74,8 @@ pub fn plain(expr: &Expr, letters: [u8; 3]) -> Expr {
 pub fn kind(rng: &mut Rng) -> usize {
     match rng.below(6) {
         0 => 0,
-        1 => *rng.pick(&[127, 128, 255, 256, 16_382, 16_383]),
-        2 => rng.within(0, 16_383),
+        1 => *rng.pick(&[127, 128, 255, 256, KIND - 1, KIND]),
+        2 => rng.within(0, KIND),
         _ => rng.within(0, 9),
     }
 }
@@ -114,13 +115,13 @@ pub fn looping_book(rng: &mut Rng) -> Book {
     with_kinds(rng, exprs)
 }
 
-/// A book of up to 32 rules over all sorts of bytes.
+/// A book of up to as many rules as there may be, over all sorts of bytes.
 pub fn wide_book(rng: &mut Rng) -> Book {
-    let count = rng.within(5, 32);
+    let count = rng.within(5, RULES);
     let mut exprs = Vec::new();
     for _ in 0..count {
         let letters = alphabet(rng);
-        let nodes = rng.within(1, 510 / count);
+        let nodes = rng.within(1, NODES / count);
         exprs.push(expr(rng, &letters, nodes));
     }
     with_kinds(rng, exprs)
@@ -169,20 +170,20 @@ pub fn heavy_book(rng: &mut Rng) -> Book {
     let two = if rng.chance(50) { alt(one(b'a'), one(b'b')) } else { Expr::Range(b'a', b'b') };
     let mut exprs = Vec::new();
     match rng.below(6) {
-        0 => {
-            // Remembers the last few letters.
-            for i in 0..rng.within(1, 12) {
-                let back = power(&two, rng.within(1, 6));
-                let tail = cat(cat(one(b'a'), back), one(b'c' + i as u8));
-                exprs.push(cat(star(two.clone()), tail));
-            }
-        }
+        0 => exprs = memories(rng, &two),
         1 => {
+            let most = *rng.pick(&[24, 70]);
             for _ in 0..rng.within(1, 3) {
-                exprs.push(star(power(&one(b'a'), rng.within(2, 70))));
+                exprs.push(star(power(&one(b'a'), rng.within(2, most))));
             }
         }
-        2 => exprs.push(power(&one(b'x'), rng.within(100, 135))),
+        2 => {
+            // Two rows have about as many states as there may be.
+            exprs.push(power(&one(b'x'), rng.within(100, 135)));
+            if rng.chance(60) {
+                exprs.push(power(&one(b'y'), rng.within(100, 130)));
+            }
+        }
         3 => {
             let letters = alphabet(rng);
             let nodes = rng.within(60, 250);
@@ -201,6 +202,17 @@ pub fn heavy_book(rng: &mut Rng) -> Book {
         exprs.push(star(Expr::Range(0, 255)));
     }
     with_kinds(rng, exprs)
+}
+
+/// Rules that remember the last few letters, up to one more than there are states for.
+fn memories(rng: &mut Rng, two: &Expr) -> Vec<Expr> {
+    let mut exprs = Vec::new();
+    for i in 0..rng.within(1, 12) {
+        let back = power(two, rng.within(1, 7));
+        let tail = cat(cat(one(b'a'), back), one(b'c' + i as u8));
+        exprs.push(cat(star(two.clone()), tail));
+    }
+    exprs
 }
 
 /// A choice of a few short words.

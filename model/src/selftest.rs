@@ -1,24 +1,24 @@
-//! The model's test of itself, first part: numbers, files, the sample book with its
-//! worked lines, and the limits; then come `crosschecks` and `comparisons`.
+//! The model's test of itself, first part: numbers, books and the sample book with its
+//! worked lines; then come `sheetchecks`, `capchecks`, `crosschecks` and `comparisons`.
 
 use crate::book;
 use crate::brute;
-use crate::build::{alike, build_by, compare_by};
+use crate::capchecks;
 use crate::comparisons;
 use crate::crosschecks;
 use crate::cut::{cut, first_word, End, Word};
 use crate::damage::damage;
-use crate::edges::{all, crossing_book, meetings, Edge, Meeting};
 use crate::faults;
-use crate::limits::{Caps, CAPS};
+use crate::limits::NODES;
 use crate::number::{self, Reader};
 use crate::prng::Rng;
 use crate::programs;
+use crate::raised_sheets::BEGINNINGS;
 use crate::random::{heavy_book, scanner_book, small_book, wide_book};
 use crate::refusal::{Fault, Refusal};
 use crate::sheet;
+use crate::sheetchecks;
 use crate::sheets;
-use crate::starts::starts;
 use crate::worked::{sample_book, sample_table, OUTPUT, SAMPLE, TEXT};
 
 /// Counts checks and names those that fail.
@@ -46,10 +46,10 @@ pub fn run() -> bool {
     let mut checks = Checks::default();
     numbers(&mut checks);
     books(&mut checks);
-    sheets_read(&mut checks);
     faulty(&mut checks);
     sample(&mut checks);
-    limits(&mut checks);
+    sheetchecks::run(&mut checks);
+    capchecks::run(&mut checks);
     crosschecks::run(&mut checks);
     comparisons::run(&mut checks);
     println!("{} passed, {} failed", checks.passed, checks.failed);
@@ -113,7 +113,7 @@ fn books(checks: &mut Checks) {
             2 => scanner_book(&mut rng),
             _ => heavy_book(&mut rng),
         };
-        if book.nodes() > 512 {
+        if book.nodes() > NODES {
             continue;
         }
         let bytes = book.write();
@@ -138,46 +138,6 @@ fn books(checks: &mut Checks) {
     }
 }
 
-fn sheets_read(checks: &mut Checks) {
-    for count in [0, 129] {
-        let lent = sheet::lent(count, &vec![0; count], &vec![0; 256 * count]);
-        checks.check("no table of 0 or 129 states", lent.is_err());
-    }
-    for seed in 0..300 {
-        let mut rng = Rng::part(2, seed);
-        let count = *rng.pick(&[1, 2, 3, 8, 30, 128]);
-        let table = sheets::random(&mut rng, count);
-        let lent = |table: &sheet::Table| sheet::lent(count, &table.labels, &table.targets);
-        checks.check("a random table is well formed", lent(&table).as_ref() == Ok(&table));
-        let mut cells = table.clone();
-        cells.labels.push(99);
-        cells.targets.push(999);
-        checks.check("cells past the table may be anything", lent(&cells).as_ref() == Ok(&table));
-        let mut cells = table.clone();
-        match rng.below(4) {
-            0 => cells.labels[rng.below(count)] = 33,
-            1 => cells.targets[rng.below(256 * count)] = count,
-            2 => drop(cells.labels.pop()),
-            _ => drop(cells.targets.pop()),
-        }
-        let loaded = Refusal { fault: Fault::Loaded, place: 0 };
-        checks.check("a spoilt table is refused", lent(&cells) == Err(loaded));
-        let bytes = sheet::write(&table);
-        checks.check("a sheet read again", sheet::read(&bytes) == Ok(table));
-        let early = sheet::read(&bytes[..rng.below(bytes.len())]).expect_err("it is too short");
-        checks.check("an early end is Short", early.fault == Fault::Short);
-        for _ in 0..40 {
-            let mut spoilt = bytes.clone();
-            damage(&mut rng, &mut spoilt);
-            let right = match sheet::read(&spoilt) {
-                Ok(table) => sheet::write(&table) == spoilt,
-                Err(refusal) => refusal.place <= spoilt.len(),
-            };
-            checks.check("a damaged sheet is refused or written alike", right);
-        }
-    }
-}
-
 /// The files written by hand; fault 0 is none.
 fn faulty(checks: &mut Checks) {
     let found = |refusal: Option<Refusal>| refusal.map_or((0, 0), |r| (r.fault as u8, r.place));
@@ -185,7 +145,7 @@ fn faulty(checks: &mut Checks) {
         let read = found(book::read(bytes).err());
         checks.check(&format!("book {bytes:02X?}: {read:?}"), read == (*fault, *place));
     }
-    for (bytes, fault, place) in faults::SHEETS {
+    for (bytes, fault, place) in faults::SHEETS.iter().chain(BEGINNINGS) {
         let read = found(sheet::read(bytes).err());
         checks.check(&format!("sheet {bytes:02X?}: {read:?}"), read == (*fault, *place));
     }
@@ -229,66 +189,4 @@ fn sample(checks: &mut Checks) {
     let dots = book::Book::of(vec![book::literal(b"1"), book::literal(b"1.1")]);
     let output = programs::cut(Some(&dots.write()), Some(b"1.."));
     checks.check("back to the last label", output == b"0 1 0 1\nstuck 1\n");
-}
-
-/// What the reading and the build of a book at a limit give.
-fn outcome(edge: &Edge) -> String {
-    let built = book::read(&edge.book.write());
-    match built.and_then(|book| build_by(&book, &alike(&book), CAPS)) {
-        Ok(built) => format!("{} states, {} terms", built.table.count(), built.pool),
-        Err(refusal) => refusal.line().trim_end().to_string(),
-    }
-}
-
-/// Comparisons at a limit, and those that turn on the start.
-fn all_meetings() -> impl Iterator<Item = Meeting> {
-    meetings().into_iter().chain(starts())
-}
-
-fn limits(checks: &mut Checks) {
-    for edge in all() {
-        checks.check(edge.name, outcome(&edge) == edge.expect);
-    }
-    for meeting in all_meetings() {
-        let sheet = sheet::write(&meeting.table);
-        let output = programs::comparison(Some(&meeting.book.write()), Some(&sheet));
-        checks.check(meeting.name, output == meeting.expect.as_bytes());
-        comparisons::least_texts(checks, &meeting.book, &meeting.table, CAPS);
-    }
-    // With room for one more vector or pair, the same step refuses Pool.
-    for (rules, back, round, length) in [(10, 6, 2, 1), (12, 6, 3, 2), (13, 6, 4, 1)] {
-        let book = crossing_book(rules, back, round, length);
-        let refused = |states| {
-            let caps = Caps { states, ..CAPS };
-            build_by(&book, &alike(&book), caps).err()
-        };
-        let (first, second) = (refused(128), refused(129));
-        let right = first.map(|r| r.place) == second.map(|r| r.place);
-        checks.check("States before Pool", right && second.map(|r| r.fault) == Some(Fault::Pool));
-    }
-    let book = crossing_book(8, 6, 1, 1);
-    let caps = Caps { pairs: 257, ..CAPS };
-    let refused = compare_by(&book, &sheets::clock(8, 67), &alike(&book), caps).err();
-    let pool = Refusal { fault: Fault::Pool, place: 164 };
-    checks.check("Pairs before Pool", refused == Some(pool));
-}
-
-/// Prints every book and meeting at a limit with what it gives.
-pub fn print_limits() {
-    for edge in all() {
-        let nodes = edge.book.nodes();
-        println!(
-            "{}: {nodes} nodes, {} bytes: {}",
-            edge.name,
-            edge.book.write().len(),
-            outcome(&edge)
-        );
-    }
-    for meeting in all_meetings() {
-        let compared = compare_by(&meeting.book, &meeting.table, &alike(&meeting.book), CAPS);
-        match compared {
-            Ok(found) => println!("{}: {} pairs, {} terms", meeting.name, found.pairs, found.pool),
-            Err(refusal) => print!("{}: {}", meeting.name, refusal.line()),
-        }
-    }
 }

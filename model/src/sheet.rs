@@ -54,9 +54,14 @@ pub fn lent(count: usize, labels: &[usize], targets: &[usize]) -> Result<Table, 
 
 /// Reads a whole sheet.
 pub fn read(bytes: &[u8]) -> Result<Table, Refusal> {
+    read_to(STATES, bytes)
+}
+
+/// Reads a whole sheet of at most so many states.
+pub fn read_to(most: usize, bytes: &[u8]) -> Result<Table, Refusal> {
     let mut reader = Reader::new(bytes);
     reader.field(VERSION, VERSION)?;
-    let count = reader.field(1, STATES)?;
+    let count = reader.field(1, most)?;
     let mut table = Table { labels: Vec::new(), targets: Vec::new() };
     for _ in 0..count {
         table.labels.push(reader.field(0, RULES)?);

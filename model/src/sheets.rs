@@ -1,7 +1,7 @@
 //! Tables made for comparing: other numberings, spare states, merged states, other
 //! labels and targets, other starts, counters, random tables, and sheets of a given length.
 
-use crate::limits::{BYTES, STATES};
+use crate::limits::{BYTES, OLDER, RULES};
 use crate::prng::Rng;
 use crate::sheet::Table;
 
@@ -29,13 +29,40 @@ pub fn with_spare(rng: &mut Rng, table: &Table, more: usize) -> Table {
     let mut wider = table.clone();
     let count = table.count() + more;
     for _ in 0..more {
-        wider.labels.push(rng.below(33));
+        wider.labels.push(rng.below(RULES + 1));
         let target = rng.below(count);
         let other = rng.below(count);
         let bend = rng.below(BYTES);
         wider.targets.extend((0..BYTES).map(|byte| if byte < bend { target } else { other }));
     }
     wider
+}
+
+/// The same table with states told apart by how many bytes lead to them, as far as
+/// `most` states allow; past these it goes on as the table itself, its last states.
+pub fn unrolled(table: &Table, most: usize) -> Table {
+    let copies = most - table.count();
+    let mut held = vec![(0, 0)];
+    let mut targets = Vec::new();
+    let mut copy = 0;
+    while copy < held.len() {
+        let (length, state) = held[copy];
+        for &target in table.row(state) {
+            let next = (length + 1, target);
+            let known = held.iter().position(|&other| other == next);
+            targets.push(known.unwrap_or(match held.len() < copies {
+                true => held.len(),
+                false => copies + target,
+            }));
+            if known.is_none() && held.len() < copies {
+                held.push(next);
+            }
+        }
+        copy += 1;
+    }
+    targets.extend(table.targets.iter().map(|&target| copies + target));
+    let states = held.iter().map(|&(_, state)| state).chain(0..table.count());
+    Table { labels: states.map(|state| table.labels[state]).collect(), targets }
 }
 
 /// The table in which every way to state `gone` leads to state `kept` instead; the
@@ -81,7 +108,7 @@ pub fn changed(rng: &mut Rng, table: &Table) -> Table {
     let mut new = table.clone();
     let state = rng.below(table.count());
     if rng.chance(50) {
-        new.labels[state] = rng.below(33);
+        new.labels[state] = rng.below(RULES + 1);
     } else {
         let target = rng.below(table.count());
         let from = rng.below(BYTES);
@@ -91,12 +118,14 @@ pub fn changed(rng: &mut Rng, table: &Table) -> Table {
     new
 }
 
-/// A random table; rows have few runs or many.
+/// A random table; rows have few runs or many, and fewer where there are many states,
+/// so that most of their sheets are no longer than a file.
 pub fn random(rng: &mut Rng, count: usize) -> Table {
+    let many = count > OLDER.states;
     let mut table = Table { labels: Vec::new(), targets: Vec::new() };
     for _ in 0..count {
-        table.labels.push(if rng.chance(40) { 0 } else { rng.below(33) });
-        let bend = *rng.pick(&[1, 10, 60, 100]);
+        table.labels.push(if rng.chance(40) { 0 } else { rng.below(RULES + 1) });
+        let bend = *rng.pick(if many { &[1, 1, 10, 60] } else { &[1, 10, 60, 100] });
         let mut target = rng.below(count);
         for _ in 0..BYTES {
             if rng.chance(bend) {
@@ -139,18 +168,18 @@ pub fn chain(count: usize, round: usize) -> Table {
     Table { labels: (0..count).map(label).collect(), ..table }
 }
 
-/// 128 states in which neighbouring bytes always have different targets, but that
+/// States in which neighbouring bytes always have different targets, but that
 /// state 0 has only `runs` runs, the first of them of length `first`.
-pub fn crowded(runs: usize, first: usize) -> Table {
-    let mut table = Table { labels: vec![0; STATES], targets: Vec::new() };
+pub fn crowded(count: usize, runs: usize, first: usize) -> Table {
+    let mut table = Table { labels: vec![0; count], targets: Vec::new() };
     let left = BYTES - first;
     for byte in 0..BYTES {
         let run =
             if byte < first { 0 } else { 1 + (byte - first).min(left - 1) * (runs - 1) / left };
-        table.targets.push(run % STATES);
+        table.targets.push(run % count);
     }
-    for state in 1..STATES {
-        table.targets.extend((0..BYTES).map(|byte| (byte + state) % STATES));
+    for state in 1..count {
+        table.targets.extend((0..BYTES).map(|byte| (byte + state) % count));
     }
     table
 }

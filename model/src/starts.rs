@@ -3,7 +3,9 @@
 
 use crate::book::{alt, cat, choice, literal, one, power, star, Book, Expr};
 use crate::build::build;
-use crate::edges::{bulk, crossing_book, differs, meet, pool_book, row_of_a, rule, Meeting};
+use crate::edges::{
+    bulk, crossing_book, differs, growing, meet, pool_book, row_of_a, rule, Meeting,
+};
 use crate::sheet::Table;
 use crate::sheets::{apart, clock, counter, funnel, lone, merged, relabelled, spread};
 use crate::worked::{sample_book, sample_table};
@@ -14,12 +16,12 @@ pub fn starts() -> Vec<Meeting> {
 }
 
 /// The table of a book that builds.
-fn own(book: &Book) -> Table {
+pub fn own(book: &Book) -> Table {
     build(book).expect("the book builds")
 }
 
 /// Any bytes, so many in a row.
-fn any(times: usize) -> Expr {
+pub fn any(times: usize) -> Expr {
     power(&Expr::Range(0, 255), times)
 }
 
@@ -74,22 +76,23 @@ fn pairs() -> Vec<Meeting> {
     let loops = |times| rule(star(alt(one(b'z'), a(times))));
     let front = |times| rule(cat(star(one(b'z')), cat(one(b'x'), star(a(times)))));
     let anys = |times| rule(star(any(times)));
-    let sixteen = [b"x", &[b'a'; 15][..]].concat();
+    let x_and = |times| [&[b'x'][..], &vec![b'a'; times]].concat();
+    let (sixteen, seventeen) = (x_and(15), x_and(16));
     let crossing = crossing_book(8, 6, 1, 1);
     vec![
         meet("256 pairs, start apart", fifteen(), aside(0), differs(&[b'a'; 15], 1, 0)),
-        meet("257 pairs, start apart", fifteen(), aside(1), "refused 12 256\n"),
+        meet("257 pairs, start apart", fifteen(), aside(1), differs(&[b'a'; 15], 1, 0)),
         meet("256 pairs, x (a^15)* by x (a^17)*", x(15), own(&x(17)), differs(&sixteen, 1, 0)),
-        meet("273 pairs, x (a^16)* by x (a^17)*", x(16), own(&x(17)), "refused 12 256\n"),
+        meet("273 pairs, x (a^16)* by x (a^17)*", x(16), own(&x(17)), differs(&seventeen, 1, 0)),
         meet("256 pairs, back by z", loops(7), own(&loops(31)), differs(&[b'a'; 7], 1, 0)),
-        meet("257 pairs, back by z", front(15), own(&front(17)), "refused 12 255\n"),
-        meet("264 pairs, back by z", loops(7), own(&loops(32)), "refused 12 255\n"),
+        meet("257 pairs, back by z", front(15), own(&front(17)), differs(&sixteen, 1, 0)),
+        meet("264 pairs, back by z", loops(7), own(&loops(32)), differs(&[b'a'; 7], 1, 0)),
         meet("256 pairs, back from pair 1", anys(2), clock(1, 127), differs(&[0; 2], 1, 0)),
-        meet("384 pairs, back from pair 129", anys(3), clock(1, 127), "refused 12 129\n"),
+        meet("384 pairs, back from pair 129", anys(3), clock(1, 127), differs(&[0; 3], 1, 0)),
         meet("256 pairs, back as the last", nine(), count(28, 3), differs(&[b'a'; 9], 1, 0)),
-        meet("257 pairs, back as the last", nine(), count(28, 4), "refused 12 256\n"),
-        meet("258 pairs, back as the last", nine(), count(28, 5), "refused 12 256\n"),
-        meet("Pairs and Pool at one step", crossing, clock(8, 67), "refused 12 164\n"),
+        meet("257 pairs, back as the last", nine(), count(28, 4), differs(&[b'a'; 9], 1, 0)),
+        meet("258 pairs, back as the last", nine(), count(28, 5), differs(&[b'a'; 9], 1, 0)),
+        meet("1025 terms and 257 pairs at once", crossing, clock(8, 67), "refused 12 358\n"),
     ]
 }
 
@@ -102,16 +105,15 @@ fn long_texts() -> Vec<Meeting> {
     ]
 }
 
-/// Refusals at the start, and past the step where it is met again; and at pair 256.
+/// Refusals, or many terms, at the start and past the step where it is met again; and
+/// at pair 256.
 fn refusals() -> Vec<Meeting> {
     let a = row_of_a;
     let back = |byte: u8, rest: Expr| cat(star(one(byte)), rest);
     let again = rule(star(alt(one(b'b'), cat(one(b'p'), a(63)))));
     let late = rule(back(b'b', cat(one(b'x'), star(a(65)))));
     let far = |byte: u8| rule(cat(any(22), star(power(&one(byte), 65))));
-    // By byte c the first c members are left, as a choice with parts of its own.
-    let member = |i: u8| cat(Expr::Range(i, 255), one(i));
-    let growing = rule(back(0, choice((1..=60).map(member).collect())));
+    let grown = rule(back(0, growing(60)));
     let (many, alone) = (pool_book(27, &[]), pool_book(26, &[15, 1, 1, 1]));
     // On a and on b the last rule stays as it is; so b leads back to the start.
     let two = || star(Expr::Range(b'a', b'b'));
@@ -122,11 +124,11 @@ fn refusals() -> Vec<Meeting> {
         meet("Long at the start, met again", again, lone(0), "refused 6 0\n"),
         meet("Long at pair 2, past the start", late, lone(0), "refused 6 2\n"),
         meet("Long at pair 256", far(0), funnel(22, 3), "refused 6 256\n"),
-        meet("Pairs at pair 256", far(b'a'), funnel(22, 3), "refused 12 256\n"),
-        meet("Pool at the start, met again", growing, lone(0), "refused 7 0\n"),
-        meet("Pool at pair 16, past the start", many, lone(0), "refused 7 16\n"),
-        meet("1025 terms, 5 in vector 0 only", alone, lone(0), "refused 7 23\n"),
+        meet("257 pairs, then Long at pair 256", far(b'a'), funnel(22, 3), "refused 6 256\n"),
+        meet("2014 terms, the start met again", grown, lone(0), differs(&[1, 1], 1, 0)),
+        meet("1031 terms, the start met again", many, lone(0), differs(b"aaaaac", 1, 0)),
+        meet("1025 terms, 5 in vector 0 only", alone, lone(0), differs(&[143], 28, 0)),
         meet("1024 terms, back by b", just, lone(0), differs(b"a", 27, 0)),
-        meet("1025 terms, back by b", filled(fresh(143)), lone(0), "refused 7 21\n"),
+        meet("1025 terms, back by b", filled(fresh(143)), lone(0), differs(b"aaaaac", 1, 0)),
     ]
 }

@@ -2,18 +2,20 @@
 //! sheets, what the program has to print for them, and tables that describe them.
 
 use crate::book;
-use crate::build::{build, compare};
+use crate::build::build;
 use crate::cases::{random_case, Case};
-use crate::cut::{cut, End, Word};
 use crate::damage::damage;
+use crate::limits::{CAPS, OLDER};
+use crate::printed::Printed;
 use crate::prng::Rng;
+use crate::raised_sheets::{beginning_cases, raised_sheet_cases};
 use crate::random::{joined_text, scanner_book, small_book};
 use crate::refusal::{Fault, Refusal};
-use crate::sheet::{self, Table};
+use crate::sheet;
 use crate::sheets::{shuffled, with_spare};
 use crate::worked::{
-    book_fault_cases, case, limit_cases, meeting_cases, sample_cases, sample_table,
-    sheet_fault_cases, start_cases, state_count_cases, SAMPLE, TEXT,
+    book_fault_cases, case, limit_cases, meeting_cases, raised_limit_cases, raised_meeting_cases,
+    sample_cases, sample_table, sheet_fault_cases, start_cases, state_count_cases, SAMPLE, TEXT,
 };
 use std::collections::BTreeMap;
 use std::fs;
@@ -23,16 +25,17 @@ use std::path::Path;
 /// The seed of all stored cases.
 const SEED: u64 = 2026;
 
-/// Words for which the program's list has room.
-const ROOM: usize = 6;
-
-/// The longest file of a random case, so that the store stays small.
+/// The longest file of a random case, so that the store stays small, and of one that
+/// the older caps do not allow.
 const SMALL: usize = 300;
+const LARGE: usize = 4_000;
 
-/// Damaged files for each refusal, and random cases with the same kinds of answers:
-/// so many of whole files, and one where a file has a fault.
+/// Damaged files for each refusal.
 const EACH: usize = 8;
-const ALIKE: usize = 8;
+
+/// Random cases, and those with the same kinds of answers past the older caps.
+const RANDOM: usize = 118;
+const ALIKE: usize = 2;
 
 /// Random cases that are looked at.
 const TRIED: u64 = 3_000;
@@ -49,8 +52,12 @@ fn groups() -> Vec<Group> {
     let group = |about, named, cases| Group { about, named, cases };
     vec![
         group("the sample book: whole, early, late, with forbidden numbers", false, sample_cases()),
-        group("books at a limit and just past it", true, limit_cases(rng)),
-        group("comparisons at a limit and just past it", true, meeting_cases(rng)),
+        group("books at a limit or an older limit, and just past it", true, limit_cases(rng)),
+        group(
+            "comparisons at a limit or an older limit, and just past it",
+            true,
+            meeting_cases(rng),
+        ),
         group("books by hand, most with a fault", false, book_fault_cases()),
         group("sheets by hand, most with a fault", false, sheet_fault_cases()),
         group("sheets of 128 and of 129 states", true, state_count_cases()),
@@ -59,6 +66,11 @@ fn groups() -> Vec<Group> {
         group("sheets of random books, damaged", false, damaged_sheets(rng)),
         group("random books, texts and sheets", false, random_cases()),
         group("comparisons over non-empty texts", true, start_cases(rng)),
+        group("books at a raised cap and just past it", true, raised_limit_cases(rng)),
+        group("comparisons at a raised cap and just past it", true, raised_meeting_cases(rng)),
+        group("beginnings of sheets of more than 128 states", false, beginning_cases()),
+        group("sheets of more than 128 states, and long ones", true, raised_sheet_cases()),
+        group("random cases past the older caps", false, raised_random_cases()),
     ]
 }
 
@@ -124,91 +136,54 @@ fn damaged_sheets(rng: &mut Rng) -> Vec<Case> {
     cases
 }
 
-/// Small random cases, a few for every three kinds of answers.
+/// Small random cases: the first ones with every three kinds of answers, then the second
+/// ones and so on, until there are as many as wanted.
 fn random_cases() -> Vec<Case> {
-    let mut cases = Vec::new();
+    let mut found: Vec<(usize, Case)> = Vec::new();
     let mut alike: BTreeMap<Vec<String>, usize> = BTreeMap::new();
     for number in 1..=TRIED {
         let case = random_case(&mut Rng::part(SEED, number));
-        let (Some(book), Some(sheet)) = (case.book.bytes(), case.sheet.bytes()) else { continue };
-        if book.len().max(sheet.len()).max(case.text.len()) > SMALL {
+        let Some(whole) = whole_files(&case, SMALL) else { continue };
+        let count = alike.entry(Printed::of(&case, CAPS).kinds()).or_default();
+        *count += 1;
+        if whole || *count == 1 {
+            found.push((*count, case));
+        }
+    }
+    found.sort_by_key(|(count, _)| *count);
+    found.truncate(RANDOM);
+    assert_eq!(found.len(), RANDOM, "the cases after them keep their numbers");
+    found.into_iter().map(|(_, case)| case).collect()
+}
+
+/// Random cases of whole files that answer otherwise than by the older caps, a few for
+/// every three kinds of answers and every three that they had.
+fn raised_random_cases() -> Vec<Case> {
+    let mut cases = Vec::new();
+    let mut alike: BTreeMap<[Vec<String>; 2], usize> = BTreeMap::new();
+    for number in 1..=TRIED {
+        let case = random_case(&mut Rng::part(SEED, TRIED + number));
+        if whole_files(&case, LARGE) != Some(true) {
             continue;
         }
-        let whole = book::read(book).is_ok() && sheet::read(sheet).is_ok();
-        let count = alike.entry(Printed::of(&case).kinds()).or_default();
+        let (old, new) = (Printed::of(&case, OLDER), Printed::of(&case, CAPS));
+        if old.text() == new.text() {
+            continue;
+        }
+        let count = alike.entry([old.kinds(), new.kinds()]).or_default();
         *count += 1;
-        if *count <= if whole { ALIKE } else { 1 } {
+        if *count <= ALIKE {
             cases.push(case);
         }
     }
     cases
 }
 
-/// What the program has to print for a case.
-struct Printed {
-    build: String,
-    words: String,
-    /// Empty where the build is refused.
-    cut: String,
-    comparison: String,
-    shown: String,
-}
-
-impl Printed {
-    fn of(case: &Case) -> Printed {
-        let bytes = case.book.bytes().unwrap_or_default();
-        let (comparison, shown) = compared(bytes, case.sheet.bytes().unwrap_or_default());
-        let built = book::read(bytes).and_then(|book| build(&book));
-        let (build, words, cut) = match built {
-            Err(refusal) => (refusal.line(), String::new(), String::new()),
-            Ok(table) => {
-                let length = sheet::write(&table).len();
-                let (words, end) = words(&table, &case.text);
-                (format!("{} states, {length} bytes\n", table.count()), words, end)
-            }
-        };
-        Printed { build, words, cut, comparison, shown }
-    }
-
-    fn text(&self) -> String {
-        [&self.build[..], &self.words, &self.cut, &self.comparison, &self.shown].concat()
-    }
-
-    /// The kinds of the three answers: a table, or the answer's name, with a refusal's number.
-    fn kinds(&self) -> Vec<String> {
-        [&self.build, &self.cut, &self.comparison].map(|line| kind(line)).to_vec()
-    }
-}
-
-fn kind(line: &str) -> String {
-    let mut parts = line.split_whitespace();
-    match (parts.next(), parts.next()) {
-        (None, _) => "no table".to_string(),
-        (Some("refused"), Some(number)) => format!("refused {number:>2}"),
-        (Some(_), Some("states,")) => "a table".to_string(),
-        (Some(name), _) => name.to_string(),
-    }
-}
-
-/// The words for which there is room, a line each, and the line that says how it ended.
-fn words(table: &Table, text: &[u8]) -> (String, String) {
-    let (words, end) = cut(table, text, ROOM);
-    let line = |w: &Word| format!("{} {} {}\n", w.start, w.length, w.rule);
-    let end = match end {
-        End::Done { count } => format!("done {count}\n"),
-        End::Stuck { count, place } => format!("stuck {count} {place}\n"),
-        End::Full { count, place } => format!("full {count} {place}\n"),
-    };
-    (words.iter().map(line).collect(), end)
-}
-
-/// The comparison by the library: the sheet is loaded before the book is read. The
-/// first line is told apart from that of the shown text.
-fn compared(book: &[u8], sheet: &[u8]) -> (String, String) {
-    let answer = sheet::read(sheet).and_then(|table| compare(&book::read(book)?, &table));
-    let lines = answer.map_or_else(|refusal| refusal.line(), |answer| answer.lines());
-    let (first, shown) = lines.split_once('\n').expect("a line ends");
-    (format!("{first}\n"), shown.to_string())
+/// Whether both files are whole, if they are there and no file is longer than `most`.
+fn whole_files(case: &Case, most: usize) -> Option<bool> {
+    let (book, sheet) = (case.book.bytes()?, case.sheet.bytes()?);
+    let small = book.len().max(sheet.len()).max(case.text.len()) <= most;
+    small.then(|| book::read(book).is_ok() && sheet::read(sheet).is_ok())
 }
 
 /// Writes the files of a case; an empty file is left out, and a text that is not cut.
@@ -238,7 +213,7 @@ pub fn put_stored(folder: &Path) -> io::Result<()> {
         let last = number + group.cases.len() - 1;
         tables.ways += &format!("| {number:03} to {last:03} | {} |\n", group.about);
         for case in group.cases {
-            let printed = Printed::of(&case);
+            let printed = Printed::of(&case, CAPS);
             put(&case, &printed, &data, number)?;
             out += &format!("{number:03} {}", printed.text());
             tables.count(&printed);

@@ -2,12 +2,15 @@
 //! cases begins with: file sizes, odd files, books and meetings at the limits or of starts.
 
 use crate::book::{self, one, Book};
-use crate::build::build;
+use crate::build::{alike, build, build_by};
 use crate::cases::{Case, File};
-use crate::edges::{all, meetings, Meeting};
+use crate::edges::{all, meetings, Edge, Meeting};
 use crate::faults;
-use crate::limits::{BOOK_FILE, TEXT_FILE};
+use crate::limits::{Caps, BOOK_FILE, BYTES, CAPS, OLDER, TEXT_FILE};
 use crate::prng::Rng;
+use crate::raised_builds::raised_edges;
+use crate::raised_meetings::raised_meetings;
+use crate::raised_sheets::{beginning_cases, raised_sheet_cases};
 use crate::random::joined_text;
 use crate::sheet::{self, Table};
 use crate::sheets::{crowded, merged, random};
@@ -55,17 +58,29 @@ pub fn fixed(rng: &mut Rng) -> Vec<Case> {
         state_count_cases(),
         sheet_length_cases(),
         start_cases(rng),
+        raised_limit_cases(rng),
+        raised_meeting_cases(rng),
+        beginning_cases(),
+        raised_sheet_cases(),
     ]
     .concat()
 }
 
-/// Books that just meet or pass a limit, against their own sheets if they build.
+/// Books that just meet or pass a limit, some of them an older one.
 pub fn limit_cases(rng: &mut Rng) -> Vec<Case> {
+    built_cases(rng, all(), OLDER)
+}
+
+/// Books against their own sheets if they build within the given caps, else against
+/// small tables. The caps are those that the books stand at, so that a book keeps its
+/// sheet when caps are raised.
+pub fn built_cases(rng: &mut Rng, edges: Vec<Edge>, caps: Caps) -> Vec<Case> {
     let mut cases = Vec::new();
-    for edge in all() {
-        let text = joined_text(rng, &edge.book, 400);
-        let table = build(&edge.book).unwrap_or_else(|_| random(rng, 3));
-        cases.push(case(edge.name, &edge.book.write(), &text, &sheet::write(&table)));
+    for Edge { name, book, .. } in edges {
+        let text = joined_text(rng, &book, 400);
+        let built = build_by(&book, &alike(&book), caps);
+        let table = built.map_or_else(|_| random(rng, 3), |built| built.table);
+        cases.push(case(name, &book.write(), &text, &sheet::write(&table)));
     }
     cases
 }
@@ -78,6 +93,16 @@ pub fn meeting_cases(rng: &mut Rng) -> Vec<Case> {
 /// Comparisons that turn on the start.
 pub fn start_cases(rng: &mut Rng) -> Vec<Case> {
     starts().iter().map(|meeting| met(rng, meeting)).collect()
+}
+
+/// Books that just meet or pass a raised cap.
+pub fn raised_limit_cases(rng: &mut Rng) -> Vec<Case> {
+    built_cases(rng, raised_edges(), CAPS)
+}
+
+/// Comparisons that just meet or pass a raised cap.
+pub fn raised_meeting_cases(rng: &mut Rng) -> Vec<Case> {
+    raised_meetings().iter().map(|meeting| met(rng, meeting)).collect()
 }
 
 fn met(rng: &mut Rng, meeting: &Meeting) -> Case {
@@ -98,23 +123,24 @@ pub fn sheet_fault_cases() -> Vec<Case> {
     faults::SHEETS.iter().map(|(bytes, _, _)| faulty(bytes)).collect()
 }
 
-/// Sheets with as many states as there may be, and one more.
+/// Sheets with as many states as an older reader takes, and one more.
 pub fn state_count_cases() -> Vec<Case> {
     let mut cases = Vec::new();
-    for (name, count) in [("128 states", 128), ("129 states", 129)] {
-        let table = Table { labels: vec![0; count], targets: vec![0; 256 * count] };
+    for (name, count) in [("128 states", OLDER.states), ("129 states", OLDER.states + 1)] {
+        let table = Table { labels: vec![0; count], targets: vec![0; BYTES * count] };
         cases.push(case(name, &SAMPLE, TEXT, &sheet::write(&table)));
     }
     cases
 }
 
-/// Sheets at the greatest size of a file, one byte longer, and the longest there is.
+/// Sheets of the older number of states: at the greatest size of a file, one byte
+/// longer, and the longest of them.
 fn sheet_length_cases() -> Vec<Case> {
     let mut cases = Vec::new();
     for (name, runs, first) in
         [("65536 bytes", 63, 4), ("65537 bytes", 63, 130), ("65923 bytes", 256, 1)]
     {
-        cases.push(case(name, &SAMPLE, TEXT, &sheet::write(&crowded(runs, first))));
+        cases.push(case(name, &SAMPLE, TEXT, &sheet::write(&crowded(OLDER.states, runs, first))));
     }
     cases
 }

@@ -110,7 +110,7 @@ module _ {before : ℕ} {w : Walked} {t₀ : List ℕ} {i : ℕ} {s : List ℕ} 
 
       module _ {s₁ : List ℕ} {r : Stepped} (x : Steps s n count states s₁ (step (wayOf 0 states i (States i)) i (heldOf s n top count) c) r) where
         own : Steps s n count states s₁ (step alone i (heldOf s n top count) c) r
-        own = steps-way alone i 0 states i (States i) (heldOf s n top count) c x refl refl refl refl
+        own = steps-way alone i 0 states i (States i) (heldOf s n top count) c x refl refl refl refl refl
 
         -- a refusal ends the row
         pub filling-stop : {q : Refusal} (t₁ : List ℕ) → r ≡ Stopped q → RowComes s₁ n before w t₀ i t₁ r

@@ -9,8 +9,8 @@ use lib.Dec.{ltb}
 use lib.ListN.{length, take, replicate, length-map}
 use lib.Seq.{take-at}
 use Rattle.number.specs.declared.Refusal.{Refusal}
-use Rattle.number.specs.declared.Refusal.the-variants.{Room}
-use Rattle.number.specs.Limits.{rules, bytes}
+use Rattle.number.specs.declared.Refusal.the-variants.{Long, Room}
+use Rattle.number.specs.Limits.{rules, bytes, states, tableCells, pool}
 use Rattle.number.specs.Numbers.{Bytes}
 use Rattle.number.specs.Refused.{Answer, Outcome}
 use Rattle.number.specs.Refused.Answer.{got, refused}
@@ -31,7 +31,8 @@ use Rattle.table.specs.SheetLaws.{sheet-read-back}
 use Rattle.cutting.specs.Steps.{labelOf, firstBy}
 use Rattle.cutting.specs.Cut.{Cut, Cuts, cutBy}
 use Rattle.vector.specs.Layout.{workLength}
-use Rattle.building.specs.Build.{buildRules}
+use Rattle.walk.specs.WiderLaws.{wider-gives, wider-refuses, long-stays}
+use Rattle.building.specs.Build.{aloneTo, builtOf, buildRulesTo, buildRules}
 use Rattle.building.specs.Calls.{buildRead, buildBook, filledBy, Building, buildOf}
 use Rattle.building.specs.BuildLaws.{build-names, build-cuts}
 use Rattle.building.specs.BuiltFormed.{built-formed}
@@ -61,6 +62,24 @@ the-build file b after t e d =
       cuts = build-cuts (meant b) t m;
       formed = f;
       sheet = sheet-read-back t f;
+    }
+
+-- the build's limits and the areas that it asks for, as numbers: told a second time, so that a slip in Limits or in the layout is seen
+pub the-areas : (states ≡ 255) × (pool ≡ 2048) × (tableCells ≡ 65280) × (workLength ≡ 63011) × (workLength ≤ 65536)
+the-areas = (refl, refl, refl, refl, omega arith)
+
+-- wider limits take nothing back. What was built with fewer states or terms allowed is built with ours, so that its sheet keeps its bytes;
+-- and what was too long is too long at the same place
+pub record Wider (most terms : ℕ) (rs : List Re) : Type 0 where
+  pub built : (t : Table) → buildRulesTo most terms rs ≡ gives t → buildRules rs ≡ gives t
+  pub long : (at : ℕ) → buildRulesTo most terms rs ≡ refuses (Long at) → buildRules rs ≡ refuses (Long at)
+
+pub the-wider-build : (most terms : ℕ) → most ≤ states → terms ≤ pool → (rs : List Re) → Wider most terms rs
+unfolding buildRules
+the-wider-build most terms less fewer rs =
+    record {
+      built = λ t. wider-gives (aloneTo most terms) states pool less fewer builtOf (λ r. refl) rs t;
+      long = λ at. wider-refuses (aloneTo most terms) states pool less fewer builtOf (λ r. refl) rs (Long at) (long-stays (aloneTo most terms) at (λ p e. omega arith));
     }
 
 -- the table that stands in an area, with the rest of the area 0

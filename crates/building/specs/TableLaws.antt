@@ -98,19 +98,19 @@ module _ (file : List ℕ) where
       pub rules-stop : {q : Refusal} {l t : List ℕ} → r ≡ Stopped q → Tabled (buildRules (rulesIn file)) l t (Refused q)
       unfolding buildRules walkFrom
       rules-stop e =
-          let m = x .begins alone (omega arith) in
+          let m = x .begins alone (omega arith) refl in
           record { comes = ap (λ w. builtOf (onFrom alone (beginBy alone w))) (f .terms) ∙ ap (λ w. builtOf (onFrom alone w)) (halts m e) }
 
       module _ {top₁ count j : ℕ} (e : r ≡ Reached top₁ count j) where
         pub rules-fillable : {t : List ℕ} → tableCells ≤ length t → Fillable s₁ n top₁ count t
         rules-fillable room =
-            let m = went (x .begins alone (omega arith)) e in
+            let m = went (x .begins alone (omega arith) refl) e in
             record { kept = m .kept; low = m .low; few = m .few; room = room }
 
         pub rules-table : builtOf (rows alone states 0 (heldOf s₁ n top₁ count)) ≡ buildRules (rulesIn file)
         unfolding buildRules walkFrom
         rules-table =
-            let m = went (x .begins alone (omega arith)) e in
+            let m = went (x .begins alone (omega arith) refl) e in
             sym (ap (λ w. builtOf (onFrom alone (beginBy alone w))) (f .terms) ∙ ap (λ w. builtOf (onFrom alone w)) (m .goes))
 
 -- ---- from a book to the table of its rules

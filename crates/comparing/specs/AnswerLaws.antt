@@ -61,7 +61,7 @@ module _ (targets file : List ℕ) (n : ℕ) (s : List ℕ) (top₀ : ℕ) (v : 
   first = come (byTargets targets) 0 nothingHeld (firstItem (vectorOf s n v))
 
   begun : Steps s n 0 items s₁ first x
-  begun = begins .begins (byTargets targets) (omega arith)
+  begun = begins .begins (byTargets targets) (omega arith) refl
 
   as-first : walkFrom (byTargets targets) (rulesIn file) ≡ onFrom (byTargets targets) first
   as-first = walk-by targets (rulesIn file) (Terms (vectorOf s n v)) (f .terms)

@@ -172,7 +172,7 @@ module _ (s₀ : List ℕ) (n top₀ count₀ i : ℕ) (targets : List ℕ) (pla
       as-way =
           step-way (byTargets targets) i to items place (Pairs place) (heldOf s n top count₁) c
           (read ∙ add-one (getD targets (base + c) 0) ∙ ap (λ (b : ℕ). suc (getD targets (b + c) 0)) (turn .based ∙ ap (λ (y : Item). stateOf (y .sheet) * bytes) (sym here)))
-          refl (turn .placed) refl
+          refl (turn .placed) refl refl
 
       pub turn-stops : (r : Refusal) → x ≡ Stopped r → Ends n targets s′ (row (byTargets targets) i bytes 0 (heldOf s₀ n top₀ count₀)) x
       turn-stops r e =

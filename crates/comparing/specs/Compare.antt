@@ -6,7 +6,7 @@ use mathlib.Core.List.{List, [], _∷_}
 use lib.Dec.{eqb, ltb}
 use lib.ListN.{getD, drop}
 use Rattle.number.specs.declared.Refusal.the-variants.{Pairs}
-use Rattle.number.specs.Limits.{pairs}
+use Rattle.number.specs.Limits.{pairs, pool}
 use Rattle.number.specs.Refused.{Outcome}
 use Rattle.number.specs.Refused.Outcome.{gives, refuses}
 use Rattle.meaning.specs.Re.{Re, Text}
@@ -34,9 +34,12 @@ toldBy back i = cond (eqb back i) 0 (cond (ltb back i) (i - 1) i)
 abbrev pub numberTold : List Item → ℕ → ℕ
 numberTold xs i = toldBy (numberIn xs (startPair xs)) i
 
--- beside the table, with room for the entry and 256 pairs
+-- beside the table, with room for the entry and so many pairs, and for so many terms
+abbrev pub besideTo : ℕ → ℕ → Table → Way
+besideTo most terms t = record { go = λ q c. suc (stepIn t (stateOf q) c); limit = suc most; terms = terms; full = Pairs; told = numberTold }
+
 abbrev pub beside : Table → Way
-beside t = record { go = λ q c. suc (stepIn t (stateOf q) c); limit = suc pairs; full = Pairs; told = numberTold }
+beside = besideTo pairs pool
 
 -- the pairs that a non-empty text reaches
 abbrev pub found : Held → List Item
@@ -63,5 +66,9 @@ abbrev pub comparedBy : Table → Walked → Outcome Verdict
 comparedBy t (halted r) = refuses r
 comparedBy t (walked h js) = gives (firstDiffering t (found h))
 
+-- the comparison of a table with a row of rules: with so many pairs and terms allowed, and with ours
+abbrev pub compareRulesTo : ℕ → ℕ → Table → List Re → Outcome Verdict
+compareRulesTo most terms t rs = comparedBy t (walkFrom (besideTo most terms t) rs)
+
 unfoldable pub compareRules : Table → List Re → Outcome Verdict
-compareRules t rs = comparedBy t (walkFrom (beside t) rs)
+compareRules t rs = compareRulesTo pairs pool t rs

@@ -41,7 +41,7 @@ use Rattle.comparing.specs.Demand.Leaving.{nothing, pair}
 use Rattle.comparing.specs.PairLaws.{bytes-none, none-sooner, listed, listed-beyond, pairs-to, numbered, pairs-most, number-one}
 
 module _ (rs : List Re) (t : Table) where
-  terms-most : (h : Held) → Pooled h → (last : Text) (terms : List Re) → TermsTo rs last terms
+  terms-most : (h : Held) → Pooled pool h → (last : Text) (terms : List Re) → TermsTo rs last terms
       → ((w : Text) → Bytes w → NotLater w last → (k : ℕ) × Arrived (beside t) rs h w k) → length terms ≤ pool
   terms-most h p last terms m arrives =
       omega (
@@ -54,7 +54,7 @@ module _ (rs : List Re) (t : Table) where
       )
 
   -- texts that are sooner than one arrive, by derivatives that fit: no limit is passed before it
-  module _ (h : Held) (g : Good (beside t) rs h) (p : Pooled h) (fit : normalised rs ≡ Terms (start rs)) (last : Text)
+  module _ (h : Held) (g : Good (beside t) rs h) (p : Pooled pool h) (fit : normalised rs ≡ Terms (start rs)) (last : Text)
       (arrives : (w : Text) → Bytes w → Sooner w last → (k : ℕ) × Arrived (beside t) rs h w k)
       (fits : (v : Text) (d : ℕ) → Bytes v → d < bytes → Sooner (v ++ (d ∷ [])) last → Fits d (deriveBy (start rs) v)) where
     not-long : (v : Text) → Sooner v last → LongAt rs v → ⊥

@@ -34,7 +34,7 @@ WholeAlike rs t text = CutAlike rs t (length text) 0 text
 abbrev pub AgreeOn : List Re → Table → Text → Type 0
 AgreeOn rs t w = Names rs w (labelOf t w)
 
--- a shown text has 1 to 256 bytes and these labels, which differ; the two cuts of it differ;
+-- a shown text has 1 to 512 bytes and these labels, which differ; the two cuts of it differ;
 -- every sooner text is cut alike, from every place and with every room; no non-empty text on which they do not agree is sooner
 pub record Differ (rs : List Re) (t : Table) (text : Text) (x y : ℕ) : Type 0 where
   pub is-text : Bytes text

@@ -1,12 +1,14 @@
 -- The theorems of comparing that are bought, together; each is proved in the file that its proof names.
 -- To believe them, read the definitions: Demand, Compare and Calls here, Texts and Walk in walk, and those that they stand on.
-use Prim.Native.Nat.{ℕ}
+use Prim.Native.Nat.{ℕ, suc, _≤_}
 use mathlib.Core.Path.{_≡_, refl, sym, ap, _∙_}
 use mathlib.Core.List.{List}
 use mathlib.Core.Logic.{_↔_}
 use native.Mathlib.Omega.{arith}
 use lib.ListN.{length}
 use Rattle.number.specs.declared.Refusal.{Refusal}
+use Rattle.number.specs.declared.Refusal.the-variants.{Long}
+use Rattle.number.specs.Limits.{pairs, pool, shownText}
 use Rattle.number.specs.Numbers.{Bytes}
 use Rattle.number.specs.Refused.{Answer, Outcome}
 use Rattle.number.specs.Refused.Answer.{got, refused}
@@ -27,8 +29,9 @@ use Rattle.walk.specs.Walk.{Walked, walkFrom}
 use Rattle.walk.specs.Walk.Walked.{halted, walked}
 use Rattle.walk.specs.KeepLaws.{WalkIs}
 use Rattle.walk.specs.HaltLaws.{Met, walk-met}
+use Rattle.walk.specs.WiderLaws.{wider-gives, wider-refuses, long-stays}
 use Rattle.building.specs.Calls.{buildRead, buildBook}
-use Rattle.comparing.specs.Compare.{beside, Verdict, comparedBy, compareRules}
+use Rattle.comparing.specs.Compare.{besideTo, beside, Verdict, comparedBy, compareRulesTo, compareRules}
 use Rattle.comparing.specs.Compare.Verdict.{Same, Differs}
 use Rattle.comparing.specs.Calls.{compareRead, compareBook}
 use Rattle.comparing.specs.Demand.{CutAlike, WholeAlike, AgreeOn, Differ, PairNumber, Declined, WithinLimits}
@@ -106,6 +109,24 @@ the-refusal rs t r q = declined-one rs t r q
 -- a pair has no two numbers
 pub the-number : (rs : List Re) (t : Table) (w : Text) (m n : ℕ) → PairNumber rs t w m → PairNumber rs t w n → m ≡ n
 the-number rs t w m n p q = number-one rs t m n p q
+
+-- the pairs that may be counted and the bytes of the text area, as numbers: told a second time, so that a slip in Limits is seen
+pub the-numbers : (pairs ≡ 512) × (shownText ≡ 512)
+the-numbers = (refl, refl)
+
+-- wider limits take nothing back: what was answered with fewer pairs or terms allowed is answered with ours, and what was too long is so at the same place
+pub record Wider (most terms : ℕ) (t : Table) (rs : List Re) : Type 0 where
+  pub answered : (v : Verdict) → compareRulesTo most terms t rs ≡ gives v → compareRules t rs ≡ gives v
+  pub long : (at : ℕ) → compareRulesTo most terms t rs ≡ refuses (Long at) → compareRules t rs ≡ refuses (Long at)
+
+pub the-wider-comparison : (most terms : ℕ) → most ≤ pairs → terms ≤ pool → (t : Table) (rs : List Re) → Wider most terms t rs
+unfolding compareRules
+the-wider-comparison most terms less fewer t rs =
+    let way = besideTo most terms t in
+    record {
+      answered = λ v. wider-gives way (suc pairs) pool (omega arith) fewer (comparedBy t) (λ r. refl) rs v;
+      long = λ at. wider-refuses way (suc pairs) pool (omega arith) fewer (comparedBy t) (λ r. refl) rs (Long at) (long-stays way at (λ p e. omega arith));
+    }
 
 -- on the table that our build made of the same book it answers Same
 pub the-own-table : (file : List ℕ) (t : Table) → buildBook file ≡ gives t → compareBook file t ≡ gives Same

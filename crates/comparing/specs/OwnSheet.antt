@@ -48,7 +48,7 @@ record OwnHeld (b h : Held) : Type 0 where
   pool-once : Once (h .pool)
   pool-in : (x : Re) → Pool·held (h .pool) x → Pool·held (b .pool) x
 
-module _ (b : Held) (p : Pooled b) where
+module _ (b : Held) (p : Pooled pool b) where
   own-none : OwnHeld b nothingHeld
   own-none = record {
     own = λ k l. absurd (omega arith);
@@ -98,7 +98,7 @@ module _ (rs : List Re) (t : Table) (m : Built rs t) where
   explored : Explored alone rs b (m .numbers)
   explored = walk-explores alone rs b (m .numbers) (m .walks)
 
-  pooled : Pooled b
+  pooled : Pooled pool b
   pooled = walk-pooled alone rs b (m .numbers) (m .walks)
 
   few : count b < pairs

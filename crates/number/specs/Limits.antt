@@ -1,4 +1,4 @@
--- Every number that document 01 fixes, once: a definition or a promise that needs one names it here.
+-- Every number that document 01 fixes, or a request of document 02 after it, once: a definition or a promise that needs one names it here.
 -- src/limits.rt holds the same numbers for the code; a proof that crosses from one to the other fails if they differ.
 use Prim.Native.Nat.{ℕ, _*_}
 
@@ -51,7 +51,7 @@ capital = 32
 
 -- tables: states of a table, and so of a sheet, and the cells that its targets fill
 abbrev pub states : ℕ
-states = 128
+states = 255
 
 abbrev pub tableCells : ℕ
 tableCells = states * bytes
@@ -61,13 +61,13 @@ abbrev pub treeNodes : ℕ
 treeNodes = 255
 
 abbrev pub pool : ℕ
-pool = 1024
+pool = 2048
 
 abbrev pub pairs : ℕ
-pairs = 256
+pairs = 512
 
 abbrev pub shownText : ℕ
-shownText = 256
+shownText = 512
 
 -- lent work areas: the most cells that a call may ask for, and the scratch for making one term, a derivative or a rule's normal form
 abbrev pub workCells : ℕ

@@ -1,4 +1,4 @@
-// Every number that document 01 fixes, once, for the code; specs/Limits.antt holds the same for the definitions.
+// Every number that document 01 fixes, or a request of document 02 after it, once, for the code; specs/Limits.antt holds the same for the definitions.
 // A contract is stated with those and met with these, so the two cannot drift apart where a proof uses them.
 
 // Numbers in files: what one group of seven bits can hold, and two, and three, which is the most there are.
@@ -33,18 +33,18 @@ pub const LAST_LETTER: usize = 122;
 pub const CAPITAL: usize = 32;
 
 // Tables: states of a table, and the cells that its targets fill.
-pub const STATES: usize = 128;
+pub const STATES: usize = 255;
 
 pub const TABLE_CELLS: usize = STATES * BYTES;
 
 // The walk: tree nodes of a normal-form result, distinct terms of the held vectors, held pairs, bytes of a shown text.
 pub const TREE_NODES: usize = 255;
 
-pub const POOL: usize = 1024;
+pub const POOL: usize = 2048;
 
-pub const PAIRS: usize = 256;
+pub const PAIRS: usize = 512;
 
-pub const SHOWN_TEXT: usize = 256;
+pub const SHOWN_TEXT: usize = 512;
 
 // Programs: bytes of a rule book's file, of standard input and of a sheet's file.
 pub const BOOK_FILE: usize = 4096;

@@ -1,6 +1,6 @@
 // Prints what the three programs print on stored inputs, each under a line that names the case.
 // A name with no file stands for a missing file. The sheet that program sheet would write is shown in hexadecimal.
-ghost use Prim.Native.Nat.{_≤_};
+ghost use Prim.Native.Nat.{_+_, _*_, _≤_};
 ghost use mathlib.Core.Path.{_≡_};
 ghost use lib.ListN.{length};
 ghost use Rattle.table.specs.Formed.{longestSheet};
@@ -12,14 +12,21 @@ use number::limits::TEXT_FILE;
 use programs::COMPARE_ROOM;
 use programs::CUT_ROOM;
 use programs::Made;
-use programs::SHEET_ROOM;
 use programs::files;
+use table::LONGEST_SHEET;
 
 // The buffer for all lines of a cut. Only its length is told: a prover that sees so many cells goes through them.
 fn room() -> [u8; CUT_ROOM]
     ensures { λ r. ⌜ cutRoom ≡ length r ⌝ }
 {
     [0; CUT_ROOM]
+}
+
+// The same for the line of a sheet.
+fn hex_room() -> [u8; 2 * LONGEST_SHEET + 1]
+    ensures { λ r. ⌜ 2 * longestSheet + 1 ≡ length r ⌝ }
+{
+    [0; 2 * LONGEST_SHEET + 1]
 }
 
 fn cut(title: &[u8], book_name: &[u8], text_name: &[u8]) {
@@ -47,14 +54,14 @@ fn compare(title: &[u8], book_name: &[u8], sheet_name: &[u8]) {
 fn show(sheet: &[u8])
     requires { ⌜ length (now sheet) ≤ longestSheet ⌝ }
 {
-    let mut out = [0u8; 2 * SHEET_ROOM + 1];
+    let mut out = hex_room();
     let end = lines::put_hex_line(sheet, 0, &mut out, 0);
     io::write_all(STDOUT_FILENO, &out[0..end]);
 }
 
 fn sheet(title: &[u8], book_name: &[u8]) {
     let mut book = [0u8; BOOK_FILE + 1];
-    let mut out = [0u8; SHEET_ROOM];
+    let mut out = [0u8; LONGEST_SHEET];
     let book_end = files::read_named(book_name, &mut book);
     let made = programs::sheet_bytes(&book[0..book_end], &mut out);
     io::write_all(STDOUT_FILENO, title);
@@ -129,6 +136,25 @@ fn comparisons() {
     );
 }
 
+// At limits: a text as long as there may be, a sheet as long as the program reads, and one byte more.
+fn large_comparisons() {
+    compare(
+        b"compare: a difference that only 512 bytes show\n",
+        b"far.book",
+        b"far.sheet",
+    );
+    compare(
+        b"compare: a sheet of 65,536 bytes\n",
+        b"full.book",
+        b"full.sheet",
+    );
+    compare(
+        b"compare: a sheet of 65,537 bytes\n",
+        b"full.book",
+        b"over.sheet",
+    );
+}
+
 fn refused_comparisons() {
     compare(b"compare: no book\n", b"no.book", b"own.sheet");
     compare(
@@ -153,11 +179,20 @@ fn refused_comparisons() {
     );
 }
 
+// The sheet of 128 states has the bytes that it had while there could be no more.
+fn sheets() {
+    sheet(b"sheet: the sample\n", b"w.book");
+    sheet(b"sheet: 128 states\n", b"s128.book");
+    sheet(b"sheet: 255 states\n", b"s255.book");
+    sheet(b"sheet: a book that asks for 256 states\n", b"s256.book");
+    sheet(b"sheet: a book that ends a byte early\n", b"early.book");
+    sheet(b"sheet: no book\n", b"no.book");
+}
+
 fn main() {
     cuts();
     comparisons();
+    large_comparisons();
     refused_comparisons();
-    sheet(b"sheet: the sample\n", b"w.book");
-    sheet(b"sheet: a book that ends a byte early\n", b"early.book");
-    sheet(b"sheet: no book\n", b"no.book");
+    sheets();
 }

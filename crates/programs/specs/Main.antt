@@ -99,7 +99,7 @@ module _ (book : List ℕ) (b : Book) (after : ℕ) (sheet : List ℕ) (t : Tabl
   pub the-same-line : comparePrint book sheet ≡ sameLine → (room at : ℕ) (text : Text) → Bytes text → CutAlike (meant b) t room at text
   the-same-line e = comparing.the-same book b after t read (same-only (compareBook book t) (sym the-comparison ∙ e))
 
-  -- a difference is printed with a text of 1 to 256 bytes: never `differs 0`
+  -- a difference is printed with a text of 1 to 512 bytes: never `differs 0`
   pub the-differs-line : (text : Text) (x y : ℕ) → compareBook book t ≡ gives (Differs text x y)
       → (comparePrint book sheet ≡ verdictLines (gives (Differs text x y))) × (0 < length text) × (length text ≤ shownText)
   the-differs-line text x y e =

@@ -11,5 +11,4 @@ pub use compare::compare_lines;
 pub use cut::CUT_ROOM;
 pub use cut::cut_lines;
 pub use sheet::Made;
-pub use sheet::SHEET_ROOM;
 pub use sheet::sheet_bytes;

@@ -10,15 +10,11 @@ ghost use Rattle.building.specs.Calls.{buildBook};
 ghost use Rattle.programs.specs.Print.{sheetBuilt, sheetOf, Makes};
 use number::Refusal;
 use number::limits::BOOK_FILE;
-use number::limits::BYTES;
 use number::limits::STATES;
 use number::limits::TABLE_CELLS;
 use table::Counted;
 use table::Written;
 use vector::layout::WORK_LENGTH;
-
-// The longest sheet: version and count in three bytes, and for each state a label, a run count in two bytes, and 256 runs of two.
-pub const SHEET_ROOM: usize = 3 + STATES * (3 + 2 * BYTES);
 
 // A sheet or a line of text, and where it ends.
 pub enum Made {

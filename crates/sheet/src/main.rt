@@ -5,8 +5,8 @@ use lines::LINE_ROOM;
 use number::Refusal;
 use number::limits::BOOK_FILE;
 use programs::Made;
-use programs::SHEET_ROOM;
 use programs::files;
+use table::LONGEST_SHEET;
 
 fn save(sheet: &[u8]) -> bool {
     let fd = os::open_overwrite(b"words.sheet");
@@ -27,7 +27,7 @@ fn tell_unsaved() {
 
 fn main() {
     let mut book = [0u8; BOOK_FILE + 1];
-    let mut out = [0u8; SHEET_ROOM];
+    let mut out = [0u8; LONGEST_SHEET];
     let book_end = files::read_named(b"words.book", &mut book);
     match programs::sheet_bytes(&book[0..book_end], &mut out) {
         Made::Sheet(end) => {

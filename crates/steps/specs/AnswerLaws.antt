@@ -194,7 +194,7 @@ module _ (s : List ℕ) (n top : ℕ) (v : List ℕ) (ok : First s n top v) wher
   pub begins-over : pool < top → Begins s n v s (Stopped (Pool 0))
   unfolding numberIn
   begins-over l = record {
-    begins = λ way m. record {
+    begins = λ way m o. record {
       same-length = refl;
       comes = come-pool way 0 nothingHeld (firstItem (vectorOf s n v)) 0 refl (omega arith) (omega arith) (omega (arith, begun));
     };
@@ -213,7 +213,7 @@ module _ (s : List ℕ) (n top : ℕ) (v : List ℕ) (ok : First s n top v) wher
     pub begins-held : Begins s n v s′ (Reached top 1 0)
     unfolding numberIn
     begins-held = record {
-      begins = λ way m. record {
+      begins = λ way m o. record {
         same-length = stored-length s n top 0 v 0 0 0 s′ (ok .kept) (omega arith) (ok .numbers) stored;
         comes = record {
           goes =

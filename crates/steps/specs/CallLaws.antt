@@ -5,7 +5,7 @@ use mathlib.Core.Path.{_≡_, subst}
 use mathlib.Core.List.{List}
 use native.Mathlib.Omega.{arith}
 use Rattle.number.specs.declared.Refusal.{Refusal}
-use Rattle.number.specs.Limits.{bytes}
+use Rattle.number.specs.Limits.{bytes, pool}
 use Rattle.walk.specs.Walk.{Held, Step, Way, step}
 use Rattle.walk.specs.Walk.Step.{stopped}
 use Rattle.walk.specs.StepLaws.{item}
@@ -35,9 +35,9 @@ followed {x} {s} f e = subst (Follows x s) e f
 -- the step is one of the caller's walk
 pub steps-way : {s : List ℕ} {n before : ℕ} {s′ : List ℕ} {r : Stepped} (way : Way) (i sheet limit place : ℕ) (full : Refusal) (h : Held) (c : ℕ)
     → Steps s n before limit s′ (step (wayOf sheet limit place full) i h c) r → sheet ≡ way .go (item h i .sheet) c → limit ≡ way .limit
-    → place ≡ way .told (h .items) i → full ≡ way .full place → Steps s n before limit s′ (step way i h c) r
-steps-way {s} {n} {before} {s′} {r} way i sheet limit place full h c x o p z q =
-    subst (λ (w : Step). Steps s n before limit s′ w r) (step-way way i sheet limit place full h c o p z q) x
+    → place ≡ way .told (h .items) i → full ≡ way .full place → way .terms ≡ pool → Steps s n before limit s′ (step way i h c) r
+steps-way {s} {n} {before} {s′} {r} way i sheet limit place full h c x o p z q t =
+    subst (λ (w : Step). Steps s n before limit s′ w r) (step-way way i sheet limit place full h c o p z q t) x
 
 -- the next step may be made from an item that was there before
 pub ready-next : {s : List ℕ} {n before limit top count j : ℕ} {w : Step} (i byte : ℕ) → Went s n before limit top count j w → limit ≤ items

@@ -5,7 +5,6 @@ use mathlib.Core.Path.{_≡_}
 use borrow.Author.Tests.{lt-ltb, le-ltb, le-leb, lt-leb}
 use lib.ListN.{length}
 use Rattle.number.specs.declared.Refusal.the-variants.{Pool}
-use Rattle.number.specs.Limits.{pool}
 use Rattle.walk.specs.Walk.{Item, Held, numberIn, Way, added, come}
 use Rattle.walk.specs.Walk.Step.{stopped, reached}
 use Rattle.walk.specs.StepLaws.{count}
@@ -19,10 +18,10 @@ module _ (way : Way) (i : ℕ) (h : Held) (x : Item) (k : ℕ) (is : k ≡ numbe
   unfolding come
   come-full l m = rw (← is, le-ltb k (count h) l, le-leb (way .limit) (count h) m)
 
-  pub come-pool : count h ≤ k → count h < way .limit → pool < length (added h x .pool) → come way i h x ≡ stopped (Pool i)
+  pub come-pool : count h ≤ k → count h < way .limit → way .terms < length (added h x .pool) → come way i h x ≡ stopped (Pool i)
   unfolding come
-  come-pool l m o = rw (← is, le-ltb k (count h) l, lt-leb (way .limit) (count h) m, lt-ltb pool (length (added h x .pool)) o)
+  come-pool l m o = rw (← is, le-ltb k (count h) l, lt-leb (way .limit) (count h) m, lt-ltb (way .terms) (length (added h x .pool)) o)
 
-  pub come-new : count h ≤ k → count h < way .limit → length (added h x .pool) ≤ pool → come way i h x ≡ reached (added h x) (count h)
+  pub come-new : count h ≤ k → count h < way .limit → length (added h x .pool) ≤ way .terms → come way i h x ≡ reached (added h x) (count h)
   unfolding come
-  come-new l m o = rw (← is, le-ltb k (count h) l, lt-leb (way .limit) (count h) m, le-ltb pool (length (added h x .pool)) o)
+  come-new l m o = rw (← is, le-ltb k (count h) l, lt-leb (way .limit) (count h) m, le-ltb (way .terms) (length (added h x .pool)) o)

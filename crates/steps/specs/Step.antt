@@ -18,9 +18,9 @@ use Rattle.vector.specs.Memory.{heldOf, Kept}
 use Rattle.steps.specs.declared.Stepped.{Stepped}
 use Rattle.steps.specs.declared.Stepped.the-variants.{Reached, Stopped}
 
--- the way of one step: the sheet state that it leads to, how many items may be held, the place to tell, and the refusal of one more
+-- the way of one step: the sheet state that it leads to, how many items may be held, the place to tell, and the refusal of one more; terms as many as the pool takes
 abbrev pub wayOf : ℕ → ℕ → ℕ → Refusal → Way
-wayOf sheet limit place full = record { go = λ q c. sheet; limit = limit; full = λ i. full; told = λ xs i. place }
+wayOf sheet limit place full = record { go = λ q c. sheet; limit = limit; terms = pool; full = λ i. full; told = λ xs i. place }
 
 -- a step can be made from item i by a byte
 pub record Ready (s : List ℕ) (n top count limit i byte : ℕ) : Type 0 where
@@ -64,9 +64,9 @@ pub record First (s : List ℕ) (n top : ℕ) (v : List ℕ) : Type 0 where
 abbrev pub firstItem : List Re → Item
 firstItem v = record { sheet = 0; vector = v; text = [] }
 
--- the walk begins at vector 0, whatever its way, if that allows an item at all
+-- the walk begins at vector 0, whatever its way, if that allows an item at all and as many terms as the pool takes
 pub record Begins (s : List ℕ) (n : ℕ) (v : List ℕ) (s′ : List ℕ) (r : Stepped) : Type 0 where
-  pub begins : (way : Way) → 1 ≤ way .limit → Steps s n 0 (way .limit) s′ (come way 0 nothingHeld (firstItem (vectorOf s n v))) r
+  pub begins : (way : Way) → 1 ≤ way .limit → way .terms ≡ pool → Steps s n 0 (way .limit) s′ (come way 0 nothingHeld (firstItem (vectorOf s n v))) r
 
 -- an index of the pool is still one
 pub record Keeps (s : List ℕ) (top : ℕ) (s′ : List ℕ) (r : Stepped) : Type 0 where

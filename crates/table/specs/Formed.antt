@@ -6,9 +6,9 @@ use mathlib.Core.List.{List, [], _∷_, _++_}
 use lib.ListN.{length, getD, replicate}
 use Rattle.number.specs.Limits.{rules, states, bytes}
 use Rattle.table.specs.Table.{Table}
-use Rattle.table.specs.Sheet.{Run}
+use Rattle.table.specs.Sheet.{Run, writeSheet}
 
--- 1 to 128 states, a label each of at most 32, 256 targets each that are states
+-- 1 to 255 states, a label each of at most 32, 256 targets each that are states
 pub record Formed (t : Table) : Type 0 where
   pub some : 1 ≤ t .count
   pub most : t .count ≤ states
@@ -40,9 +40,15 @@ Proper (r ∷ rs) = (1 ≤ r .len) × Leaves (r .target) rs × Proper rs
 abbrev pub Ends : ℕ → List ℕ → Type 0
 Ends t row = 0 < length row → getD row 0 0 ≡ t → ⊥
 
--- the most bytes of a state, 515, and of a sheet, 65,923: as many are needed where no row has two equal neighbours
+-- the most bytes of a state, 771, and of a sheet, 196,608: as many are needed where no row has two equal neighbours and each target takes two bytes
 abbrev pub longestState : ℕ
-longestState = 1 + (2 + 2 * bytes)
+longestState = 1 + (2 + 3 * bytes)
 
 abbrev pub longestSheet : ℕ
 longestSheet = 1 + (2 + states * longestState)
+
+-- a formed table whose sheet has so many bytes
+pub record Takes (n : ℕ) : Type 0 where
+  pub table : Table
+  pub formed : Formed table
+  pub long : length (writeSheet table) ≡ n

@@ -9,10 +9,12 @@ pub mod SheetFormed
 pub mod SheetRuns
 pub mod SheetLaws
 pub mod SheetBytes
+pub mod SheetLongest
 pub mod SheetCalls
 pub mod TableLaws
 pub mod WritingLaws
 pub mod WriteLaws
 pub mod ReadingLaws
+pub mod SheetReaders
 pub mod LoadLaws
 pub mod Main

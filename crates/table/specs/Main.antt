@@ -1,23 +1,28 @@
 -- The theorems about sheets that are bought, together; each is proved in the file that its proof names.
 -- To believe them, read only the definitions: Table, Sheet, Calls and Formed, with number's Limits, Numbers and Reading.
-use Prim.Native.Nat.{ℕ, suc, _*_, _≤_}
-use mathlib.Core.Path.{_≡_}
+use Prim.Native.Nat.{ℕ, suc, _*_, _≤_, _<_}
+use mathlib.Core.Path.{_≡_, refl}
 use mathlib.Core.Bool.{true, false}
-use mathlib.Core.List.{List, _∷_, _++_}
+use mathlib.Core.List.{List, [], _∷_, _++_}
 use mathlib.Core.Logic.{_↔_}
 use lib.ListN.{length, take, drop, replicate}
-use Rattle.number.specs.Limits.{bytes}
-use Rattle.number.specs.Numbers.{Bytes}
-use Rattle.number.specs.Refused.Answer.{got}
+use Rattle.number.specs.declared.Refusal.{Refusal}
+use Rattle.number.specs.declared.Refusal.the-variants.{Short, Range}
+use Rattle.number.specs.Limits.{states, bytes}
+use Rattle.number.specs.Numbers.{Bytes, due, several, readNumber, within, field, writeNumber}
+use Rattle.number.specs.Refused.Answer.{got, refused}
 use Rattle.number.specs.Refused.Outcome.{gives}
 use Rattle.table.specs.Table.{Table, lent, wellFormed}
-use Rattle.table.specs.Sheet.{Run, readSheet, runsOf, writeSheet}
+use Rattle.table.specs.Sheet.{Run, readRuns, readStates, sheet, readSheetTo, readSheet, countTold}
+use Rattle.table.specs.Sheet.{joined, runsOf, writeRuns, writeRow, writeStates, writeSheet}
 use Rattle.table.specs.Calls.{padded, cramped, loadOf, writeOf}
-use Rattle.table.specs.Formed.{Formed, expanded, covered, Proper, Ends, longestSheet}
+use Rattle.table.specs.Formed.{Formed, expanded, covered, Proper, Ends, Takes, longestSheet}
 use Rattle.table.specs.SheetFormed.{well-formed-formed}
 use Rattle.table.specs.SheetRuns.{runs-expanded, runs-proper, runs-covered, runs-count, runs-first, expanded-runs}
 use Rattle.table.specs.SheetLaws.{sheet-read-back, sheet-back}
 use Rattle.table.specs.SheetBytes.{sheet-bytes, sheet-length}
+use Rattle.table.specs.SheetLongest.{longest-taken}
+use Rattle.table.specs.SheetReaders.{untold-refused, read-alike, larger-refused, few-taken, many-refused, taken-few}
 use Rattle.table.specs.SheetCalls.{sheet-one, write-then-load, load-then-write, load-well-formed, write-fits}
 
 -- the Boolean test of lent memory tells whether the table in it is formed
@@ -56,14 +61,70 @@ read-is-written file t after all e =
     let told = sheet-back file all t after e in
     (told .written, told .formed, told .ended)
 
--- a sheet is made of bytes, there is one for each formed table, and a buffer of 65,923 bytes holds any
+-- a sheet is made of bytes, and there is one for each formed table
 pub record Sheets : Type 0 where
   pub of-bytes : (t : Table) → Formed t → Bytes (writeSheet t)
   pub one : (t u : Table) → Formed t → Formed u → writeSheet t ≡ writeSheet u → t ≡ u
-  pub longest : (t : Table) → Formed t → length (writeSheet t) ≤ longestSheet
 
 pub the-sheets : Sheets
-the-sheets = record { of-bytes = sheet-bytes; one = sheet-one; longest = sheet-length }
+the-sheets = record { of-bytes = sheet-bytes; one = sheet-one }
+
+-- the longest sheet: a buffer of so many bytes holds any, and one that is a byte shorter does not
+pub record Longest : Type 0 where
+  pub is : longestSheet ≡ 196608
+  pub holds : (t : Table) → Formed t → length (writeSheet t) ≤ longestSheet
+  pub needed : Takes longestSheet
+
+pub the-longest : Longest
+the-longest = record { is = refl; holds = sheet-length; needed = longest-taken }
+
+-- one file by readers that take k states or m, where `countTold` is the state count in it. They answer alike, table or refusal, where it tells
+-- none or one that both take; a reader refuses more than it takes by Range at the state count, which is place 1
+pub record Readers : Type 0 where
+  pub none : (file : List ℕ) (k : ℕ) (r : Refusal) → countTold file ≡ refused r → readSheetTo file k ≡ refused r
+  pub few : (file : List ℕ) (k m s next : ℕ) → countTold file ≡ got s next → s ≤ k → s ≤ m → readSheetTo file k ≡ readSheetTo file m
+  pub more : (file : List ℕ) (k s next : ℕ) → Bytes file → countTold file ≡ got s next → k < s → readSheetTo file k ≡ refused (Range 1)
+
+pub the-readers : Readers
+the-readers = record { none = untold-refused; few = read-alike; more = larger-refused }
+
+-- the sheet of a table by a reader that takes k states, as an older one takes 128: it is read whole or refused, by the table's states alone;
+-- and what such a reader takes is our sheet of the table that it reads, byte for byte
+pub record OlderReaders : Type 0 where
+  pub taken : (t : Table) → Formed t → (k : ℕ) → t .count ≤ k → readSheetTo (writeSheet t) k ≡ got t (length (writeSheet t))
+  pub refused : (t : Table) → Formed t → (k : ℕ) → k < t .count → readSheetTo (writeSheet t) k ≡ refused (Range 1)
+  pub same-bytes : (file : List ℕ) (k : ℕ) (t : Table) (after : ℕ) → Bytes file → k ≤ states → readSheetTo file k ≡ got t after
+      → (writeSheet t ≡ file) × Formed t × (t .count ≤ k) × (after ≡ length file)
+
+pub the-older-readers : OlderReaders
+the-older-readers =
+    record {
+      taken = few-taken;
+      refused = many-refused;
+      same-bytes = λ file k t after all less e.
+          let told = taken-few file k t after all less e in
+          (told .0 .written, told .0 .formed, told .1, told .0 .ended);
+    }
+
+-- heads of sheets with 128, 129, 255 and 256 states, by the reader that took 128 and by ours: past a count that is taken, a label is due
+pub the-heads :
+    (readSheetTo (1 ∷ 0x80 ∷ 0x01 ∷ []) 128 ≡ refused (Short 3)) × (readSheet (1 ∷ 0x80 ∷ 0x01 ∷ []) ≡ refused (Short 3))
+    × (readSheetTo (1 ∷ 0x81 ∷ 0x01 ∷ []) 128 ≡ refused (Range 1)) × (readSheet (1 ∷ 0x81 ∷ 0x01 ∷ []) ≡ refused (Short 3))
+    × (readSheetTo (1 ∷ 0xFF ∷ 0x01 ∷ []) 128 ≡ refused (Range 1)) × (readSheet (1 ∷ 0xFF ∷ 0x01 ∷ []) ≡ refused (Short 3))
+    × (readSheetTo (1 ∷ 0x80 ∷ 0x02 ∷ []) 128 ≡ refused (Range 1)) × (readSheet (1 ∷ 0x80 ∷ 0x02 ∷ []) ≡ refused (Range 1))
+unfolding sheet readStates field within readNumber due several
+the-heads = (refl, refl, refl, refl, refl, refl, refl, refl)
+
+-- the bytes of one whole sheet, written out: state 0 leads by the byte 48 to state 1, which has label 1 and keeps to itself
+abbrev pub twoStates : Table
+twoStates = record { count = 2; labels = 0 ∷ 1 ∷ []; targets = replicate 48 0 ++ (1 ∷ replicate 207 0) ++ replicate 256 1 }
+
+abbrev pub itsBytes : List ℕ
+itsBytes = 1 ∷ 2 ∷ 0 ∷ 3 ∷ 0x30 ∷ 0 ∷ 1 ∷ 1 ∷ 0xCF ∷ 0x01 ∷ 0 ∷ 1 ∷ 1 ∷ 0x80 ∷ 0x02 ∷ 1 ∷ []
+
+pub the-bytes : (writeSheet twoStates ≡ itsBytes) × (readSheetTo itsBytes 128 ≡ got twoStates 16) × (readSheet itsBytes ≡ got twoStates 16)
+unfolding sheet readStates readRuns field within readNumber due several writeSheet writeStates writeRow writeRuns runsOf joined writeNumber
+the-bytes = (refl, refl, refl)
 
 -- over the calls: a table that was written and loaded again is there, with 0 behind its cells
 pub write-and-load : (s : ℕ) (labels targets out : List ℕ) (n : ℕ) (labels′ targets′ : List ℕ)

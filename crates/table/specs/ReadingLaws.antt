@@ -19,7 +19,7 @@ use Rattle.number.specs.Numbers.{Bytes, field, taken}
 use Rattle.number.specs.Reading.{Reader, onward, _>>_, answer, refuseIf, mapAnswer}
 use Rattle.number.specs.Lists.{written, written-length, written-more, stored-one, writes-none}
 use Rattle.table.specs.Table.{Table}
-use Rattle.table.specs.Sheet.{Rows, readRuns, readStates, sheet, readSheet}
+use Rattle.table.specs.Sheet.{Rows, readRuns, readStates, sheet, readSheetTo, readSheet}
 use Rattle.table.specs.SheetLaws.{sheet-back}
 use Rattle.table.specs.Promises.{LaysRow, LaysRows, LaysTable}
 
@@ -260,29 +260,29 @@ rows-refused {x} {s} {q = q} l e = mapped-refused x (λ (rows : Rows). s) q (sym
 
 -- ---- the sheet
 
--- the ways of reading a whole sheet
-module _ (file : List ℕ) where
-  pub sheet-no-version : {q : Refusal} → field file version version 0 ≡ refused q → readSheet file ≡ refused q
+-- the ways of reading a whole sheet, whatever the reader's limit
+module _ (file : List ℕ) (most : ℕ) where
+  pub sheet-no-version : {q : Refusal} → field file version version 0 ≡ refused q → readSheetTo file most ≡ refused q
   unfolding sheet
   sheet-no-version e = simp e
 
   module _ {v at1 : ℕ} (version-got : field file version version 0 ≡ got v at1) where
-    pub sheet-no-count : {q : Refusal} → field file 1 states at1 ≡ refused q → readSheet file ≡ refused q
+    pub sheet-no-count : {q : Refusal} → field file 1 most at1 ≡ refused q → readSheetTo file most ≡ refused q
     unfolding sheet
     sheet-no-count e = simp (version-got, e)
 
-    module _ {s at2 : ℕ} (count-got : field file 1 states at1 ≡ got s at2) where
-      pub sheet-no-states : {q : Refusal} → readStates file s s at2 ≡ refused q → readSheet file ≡ refused q
+    module _ {s at2 : ℕ} (count-got : field file 1 most at1 ≡ got s at2) where
+      pub sheet-no-states : {q : Refusal} → readStates file s s at2 ≡ refused q → readSheetTo file most ≡ refused q
       unfolding sheet
       sheet-no-states e = simp (version-got, count-got, e)
 
       module _ {rows : Rows} {next : ℕ} (states-got : readStates file s s at2 ≡ got rows next) where
-        pub sheet-tail : next < length file → readSheet file ≡ refused (Tail next)
+        pub sheet-tail : next < length file → readSheetTo file most ≡ refused (Tail next)
         unfolding sheet
         sheet-tail h = simp (version-got, count-got, states-got, lt-ltb _ _ h)
 
         pub sheet-got : length file ≤ next
-            → readSheet file ≡ got (record { count = s; labels = rows .labels; targets = rows .targets }) next
+            → readSheetTo file most ≡ got (record { count = s; labels = rows .labels; targets = rows .targets }) next
         unfolding sheet
         sheet-got h = simp (version-got, count-got, states-got, le-ltb _ _ h)
 
@@ -304,7 +304,7 @@ table-got e f z m g =
       cells = rw e (rw (f, z) at (m .cells));
     }
 
--- a sheet that was got or refused, by what the code was answered: a table of at most 128 states, one label and 256 targets each
+-- a sheet that was got or refused, by what the code was answered: a table of at most 255 states, one label and 256 targets each
 pub record SheetGot (file l t l′ t′ : List ℕ) (count next : ℕ) : Type 0 where
   pub table : Table
   pub is : readSheet file ≡ got table next

@@ -8,7 +8,7 @@ use lib.ListN.{length, take, drop, replicate}
 use Rattle.number.specs.declared.Refusal.the-variants.{Runs}
 use Rattle.number.specs.Limits.{version, rules, states, bytes}
 use Rattle.number.specs.Refused.{Answer}
-use Rattle.number.specs.Numbers.{field, writeNumber}
+use Rattle.number.specs.Numbers.{readNumber, field, writeNumber}
 use Rattle.number.specs.Reading.{Reader, _>>=_, _>>_, answer, here, refuseIf, end}
 use Rattle.table.specs.Table.{Table}
 
@@ -44,18 +44,25 @@ module _ (file : List ℕ) where
     rest ← readStates s k
     answer (record { labels = label ∷ rest .labels; targets = row ++ rest .targets })
 
-  -- version, state count, the states; nothing follows
-  unfoldable pub sheet : Reader Table
-  sheet = do
+  -- version, state count, the states; nothing follows. How many states there may be is the reader's limit: a sheet does not tell it
+  unfoldable pub sheet : ℕ → Reader Table
+  sheet most = do
     field file version version
-    s ← field file 1 states
+    s ← field file 1 most
     rows ← readStates s s
     end file
     answer (record { count = s; labels = rows .labels; targets = rows .targets })
 
-  -- a whole file
+  -- a whole file, by a reader that takes so many states; ours takes as many as a table may have
+  abbrev pub readSheetTo : ℕ → Answer Table
+  readSheetTo most = sheet most 0
+
   abbrev pub readSheet : Answer Table
-  readSheet = sheet 0
+  readSheet = readSheetTo states
+
+  -- the state count that a file tells: the number behind its version, whatever it is
+  abbrev pub countTold : Answer ℕ
+  countTold = (field file version version >> readNumber file) 0
 
 -- a run: so many bytes with one target
 pub record Run : Type 0 where

@@ -1,5 +1,5 @@
 -- The bytes of a sheet: each is a byte, and how many there can be.
--- A row of k runs takes at most 2 bytes for k, one for each target, and for lengths no more than the bytes that they cover.
+-- A row of k runs takes at most 2 bytes for k, two for each target, and for lengths no more than the bytes that they cover.
 use Prim.Native.Nat.{ℕ, _+_, _*_, _/_, _%_, _≤_, _<_}
 use native.Mathlib.Omega.{arith}
 use mathlib.Core.Path.{_≡_, sym, ap, _∙_}
@@ -95,7 +95,7 @@ width-itself n some = go (write-way n)
     go (two h k) = omega arith
     go (three h) = omega arith
 
-runs-length : (s : ℕ) (rs : List Run) → s ≤ states → Proper rs → Below s rs → length (writeRuns rs) ≤ covered rs + length rs
+runs-length : (s : ℕ) (rs : List Run) → s ≤ states → Proper rs → Below s rs → length (writeRuns rs) ≤ covered rs + 2 * length rs
 unfolding writeRuns covered
 runs-length s [] most proper below = omega arith
 runs-length s (r ∷ rs) most proper below =
@@ -104,11 +104,11 @@ runs-length s (r ∷ rs) most proper below =
       length-append (writeNumber (r .len)) (writeNumber (r .target) ++ writeRuns rs),
       length-append (writeNumber (r .target)) (writeRuns rs),
       width-itself (r .len) (proper .0),
-      width-one (r .target) (omega (arith, below .0)),
+      width-two (r .target) (omega (arith, below .0)),
       runs-length s rs most (proper .2) (below .1),
     )
 
-row-length : (s : ℕ) (row : List ℕ) → s ≤ states → length row ≡ bytes → Each (λ t. t < s) row → length (writeRow row) ≤ 2 + 2 * bytes
+row-length : (s : ℕ) (row : List ℕ) → s ≤ states → length row ≡ bytes → Each (λ t. t < s) row → length (writeRow row) ≤ 2 + 3 * bytes
 unfolding writeRow
 row-length s row most full target =
     omega (

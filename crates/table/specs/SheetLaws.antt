@@ -28,17 +28,17 @@ use Rattle.table.specs.SheetRuns.{below-leaves, below-expanded, covered-
 -- ---- steps of a reader
 
 -- a refusal is not an answer
-clash : {A : Type 0} {r : Refusal} {x : A} {next : ℕ} → _≡_ {A = Answer A} (refused r) (got x next) → ⊥
+pub clash : {A : Type 0} {r : Refusal} {x : A} {next : ℕ} → _≡_ {A = Answer A} (refused r) (got x next) → ⊥
 clash e = let z : _≡_ {A = ℕ} 0 1 = cc in omega arith
 
 -- an answer past a step says that the step was answered, and what the rest made of it
-got-onward : {A B C : Type 0} (x : Answer A) {f : A → Reader B} {b : B} {next : ℕ} → onward x f ≡ got b next
+pub got-onward : {A B C : Type 0} (x : Answer A) {f : A → Reader B} {b : B} {next : ℕ} → onward x f ≡ got b next
     → ((a : A) (mid : ℕ) → x ≡ got a mid → f a mid ≡ got b next → C) → C
 got-onward (got a mid) e k = k a mid refl e
 got-onward (refused r) e k = absurd (clash e)
 
 -- an answer past a test says that the test did not refuse
-got-past : {B C : Type 0} (test : Bool) (r : Refusal) (at : ℕ) (f : Unit {0} → Reader B) {b : B} {next : ℕ}
+pub got-past : {B C : Type 0} (test : Bool) (r : Refusal) (at : ℕ) (f : Unit {0} → Reader B) {b : B} {next : ℕ}
     → onward (cond test (refused r) (got tt at)) f ≡ got b next → (test ≡ false → f tt at ≡ got b next → C) → C
 got-past true r at f e k = absurd (clash e)
 got-past false r at f e k = k refl e

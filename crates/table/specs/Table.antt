@@ -1,4 +1,4 @@
--- A loaded table: a count of states, one label a state and 256 targets a state, in lent memory for 128 states.
+-- A loaded table: a count of states, one label a state and 256 targets a state, in lent memory for 255 states.
 -- Only the first states of the lent memory are the table; what stands past them is not looked at.
 use Prim.Native.Nat.{ℕ, _*_}
 use mathlib.Core.Bool.{Bool, true, false, _&&_}
@@ -21,7 +21,7 @@ unfoldable pub all : (ℕ → Bool) → List ℕ → Bool
 all test [] = true
 all test (x ∷ xs) = test x && all test xs
 
--- well formed (refusal 10): s is 1 to 128, memory enough for s, each label at most 32, each target below s
+-- well formed (refusal 10): s is 1 to 255, memory enough for s, each label at most 32, each target below s
 unfoldable pub wellFormed : ℕ → List ℕ → List ℕ → Bool
 wellFormed s labels targets =
     leb 1 s

@@ -18,6 +18,10 @@ use number::limits::STATES;
 use number::limits::TABLE_CELLS;
 use number::limits::VERSION;
 
+// The longest sheet: version and count in three bytes, and for each state a label, a run count in two bytes, and 256 runs of three,
+// since a target of 128 and up takes two.
+pub const LONGEST_SHEET: usize = 3 + STATES * (3 + 3 * BYTES);
+
 // The states of a table that a call filled an area with, or why it did not.
 pub enum Counted {
     States(usize),

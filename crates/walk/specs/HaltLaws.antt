@@ -8,7 +8,7 @@ use native.Mathlib.Decide.{decLt}
 use lib.ListN.{length}
 use Rattle.number.specs.declared.Refusal.{Refusal}
 use Rattle.number.specs.declared.Refusal.the-variants.{Long, Pool}
-use Rattle.number.specs.Limits.{bytes, pool}
+use Rattle.number.specs.Limits.{bytes}
 use Rattle.number.specs.Numbers.{Bytes}
 use Rattle.meaning.specs.Re.{Re, Text}
 use Rattle.meaning.specs.Derive.{deriv}
@@ -36,13 +36,13 @@ stopped-refusal e = cc
 pub record Underway (way : Way) (rs : List Re) (i c : ℕ) (h : Held) : Type 0 where
   pub rules-fit : normalised rs ≡ Terms (start rs)
   pub good : Good way rs h
-  pub pooled : Pooled h
+  pub pooled : Pooled (way .terms) h
   pub ahead : i < count h → Ahead h i c
   pub done : (j d : ℕ) → j < i → d < bytes → (k : ℕ) × Leads way h j d k
   pub row-done : (d : ℕ) → d < c → (k : ℕ) × Leads way h i d k
 
 module _ (way : Way) (rs : List Re) where
-  underway-step : (i c : ℕ) (h h′ : Held) (j : ℕ) → i < count h → Underway way rs i c h → Pooled h′ → Stepped way rs i c h h′ j → Underway way rs i (suc c) h′
+  underway-step : (i c : ℕ) (h h′ : Held) (j : ℕ) → i < count h → Underway way rs i c h → Pooled (way .terms) h′ → Stepped way rs i c h h′ j → Underway way rs i (suc c) h′
   underway-step i c h h′ j l u p s = record {
     rules-fit = u .rules-fit;
     good = s .good;
@@ -143,10 +143,10 @@ pub record Beyond {way : Way} {rs : List Re} {place : ℕ} (x : Tried way rs pla
 
 pub data Met (way : Way) (rs : List Re) : Refusal → Type 0 where
   start-long : normalised rs ≡ TooLong → Met way rs (Long 0)
-  start-over : normalised rs ≡ Terms (start rs) → pool < length (withVector [] (start rs)) → Met way rs (Pool 0)
+  start-over : normalised rs ≡ Terms (start rs) → way .terms < length (withVector [] (start rs)) → Met way rs (Pool 0)
   long : (place : ℕ) (x : Tried way rs place) → derived (x .c) (item (x .h) (x .i) .vector) ≡ TooLong → Met way rs (Long place)
   items-full : (place : ℕ) (x : Tried way rs place) → Beyond x → way .limit ≤ count (x .h) → Met way rs (way .full place)
-  pool-full : (place : ℕ) (x : Tried way rs place) (z : Beyond x) → count (x .h) < way .limit → pool < length (added (x .h) (z .y) .pool) → Met way rs (Pool place)
+  pool-full : (place : ℕ) (x : Tried way rs place) (z : Beyond x) → count (x .h) < way .limit → way .terms < length (added (x .h) (z .y) .pool) → Met way rs (Pool place)
 
 module _ (way : Way) (rs : List Re) where
   module _ (i c : ℕ) (h : Held) (l : i < count h) (b : c < bytes) (u : Underway way rs i c h) where
@@ -185,7 +185,7 @@ module _ (way : Way) (rs : List Re) where
         go : (s : Step) → step way i h c ≡ s → StepIs (Underway way rs i (suc c)) (Met way rs) s
         go (stopped r) e = step-stops r e
         go (reached g j) e =
-            underway-step way rs i c h g j l u (subst (StepIs Pooled (λ r. Unit {0})) e (pooled-step way i c h l b (u .pooled)))
+            underway-step way rs i c h g j l u (subst (StepIs (Pooled (way .terms)) (λ r. Unit {0})) e (pooled-step way i c h l b (u .pooled)))
             (stepped way rs i c h (u .good) l b (u .ahead l) (step-fits way i h c g j e) (step-moved way i h c g j e))
 
   -- vector 0
@@ -197,7 +197,7 @@ module _ (way : Way) (rs : List Re) where
   first-met some v d e (new n l p) = record {
     rules-fit = d ∙ ap Terms e;
     good = good-first way rs v e l;
-    pooled = pooled-added nothingHeld (record { sheet = 0; vector = v; text = [] }) pooled-none p;
+    pooled = pooled-added nothingHeld (record { sheet = 0; vector = v; text = [] }) (pooled-none (way .terms)) p;
     ahead = λ k. ahead-first v;
     done = λ j d k. absurd (omega arith);
     row-done = λ d k. absurd (omega arith);

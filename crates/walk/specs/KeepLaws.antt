@@ -10,7 +10,7 @@ use borrow.Author.Tests.{ltb-true}
 use lib.Dec.{ltb}
 use lib.ListN.{length}
 use Rattle.number.specs.declared.Refusal.{Refusal}
-use Rattle.number.specs.Limits.{bytes, pool}
+use Rattle.number.specs.Limits.{bytes}
 use Rattle.meaning.specs.Re.{Re}
 use Rattle.meaning.specs.Tests.{clash}
 use Rattle.walk.specs.Vectors.{Vector, derived, normalised}
@@ -91,9 +91,10 @@ walk-keeps way P R each = walk-is way (λ i c. P) R each (λ i h p. p) P (λ i h
 
 -- ---- the pool of what is held
 
-pub record Pooled (h : Held) : Type 0 where
+-- so many terms at most, each once: the parts of the held vectors
+pub record Pooled (terms : ℕ) (h : Held) : Type 0 where
   pub once : Once (h .pool)
-  pub low : length (h .pool) ≤ pool
+  pub low : length (h .pool) ≤ terms
   pub parts : (k : ℕ) → k < count h → (x : Re) → PartOf x (item h k .vector) → Pool·held (h .pool) x
   pub only : (x : Re) → Pool·held (h .pool) x → (k : ℕ) × (k < count h) × PartOf x (item h k .vector)
 
@@ -104,8 +105,8 @@ none-held x q = clash q refl
 pub once-none : Once []
 once-none = record { apart = λ i j l k. absurd (omega arith) }
 
-pub pooled-none : Pooled nothingHeld
-pooled-none = record {
+pub pooled-none : (terms : ℕ) → Pooled terms nothingHeld
+pooled-none terms = record {
   once = once-none;
   low = omega arith;
   parts = λ k l. absurd (omega arith);
@@ -113,7 +114,7 @@ pooled-none = record {
 }
 
 -- where an item more fits, its parts are pooled too
-pub pooled-added : (h : Held) (y : Item) → Pooled h → length (added h y .pool) ≤ pool → Pooled (added h y)
+pub pooled-added : {terms : ℕ} (h : Held) (y : Item) → Pooled terms h → length (added h y .pool) ≤ terms → Pooled terms (added h y)
 pooled-added h y p l = record {
   once = vector-once (h .pool) (y .vector) (p .once);
   low = l;
@@ -129,23 +130,23 @@ pooled-added h y p l = record {
   ];
 }
 
-pooled-come : (way : Way) (place : ℕ) (h : Held) (y : Item) → Pooled h → {s : Step} → Came way place h y s → StepIs Pooled (λ r. Unit {0}) s
+pooled-come : (way : Way) (place : ℕ) (h : Held) (y : Item) → Pooled (way .terms) h → {s : Step} → Came way place h y s → StepIs (Pooled (way .terms)) (λ r. Unit {0}) s
 pooled-come way place h y p (held j l q n) = p
 pooled-come way place h y p (full n l) = tt
 pooled-come way place h y p (over n l o) = tt
 pooled-come way place h y p (new n l o) = pooled-added h y p o
 
-pub pooled-step : (way : Way) (i c : ℕ) (h : Held) → i < count h → c < bytes → Pooled h → StepIs Pooled (λ r. Unit {0}) (step way i h c)
+pub pooled-step : (way : Way) (i c : ℕ) (h : Held) → i < count h → c < bytes → Pooled (way .terms) h → StepIs (Pooled (way .terms)) (λ r. Unit {0}) (step way i h c)
 unfolding step
 pooled-step way i c h l b p = go (derived c (item h i .vector))
   where
-    go : (v : Vector) → StepIs Pooled (λ r. Unit {0}) (comeBy way i h c v)
+    go : (v : Vector) → StepIs (Pooled (way .terms)) (λ r. Unit {0}) (comeBy way i h c v)
     go TooLong = tt
     go (Terms v) = let y = after way (item h i) c v in pooled-come way _ h y p (came way (way .told (h .items) i) h y)
 
-pub walk-pooled : (way : Way) (rs : List Re) (h : Held) (js : List ℕ) → walkFrom way rs ≡ walked h js → Pooled h
-walk-pooled way rs h js e = subst (WalkIs Pooled (λ r. Unit {0})) e (walk-keeps way Pooled (λ r. Unit {0}) (pooled-step way) rs (go (normalised rs)))
+pub walk-pooled : (way : Way) (rs : List Re) (h : Held) (js : List ℕ) → walkFrom way rs ≡ walked h js → Pooled (way .terms) h
+walk-pooled way rs h js e = subst (WalkIs (Pooled (way .terms)) (λ r. Unit {0})) e (walk-keeps way (Pooled (way .terms)) (λ r. Unit {0}) (pooled-step way) rs (go (normalised rs)))
   where
-    go : (v : Vector) → StepIs Pooled (λ r. Unit {0}) (beginBy way v)
+    go : (v : Vector) → StepIs (Pooled (way .terms)) (λ r. Unit {0}) (beginBy way v)
     go TooLong = tt
-    go (Terms v) = pooled-come way 0 nothingHeld _ pooled-none (came way 0 nothingHeld _)
+    go (Terms v) = pooled-come way 0 nothingHeld _ (pooled-none (way .terms)) (came way 0 nothingHeld _)

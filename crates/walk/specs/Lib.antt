@@ -14,3 +14,4 @@ pub mod RunLaws
 pub mod CountLaws
 pub mod KeepLaws
 pub mod HaltLaws
+pub mod WiderLaws

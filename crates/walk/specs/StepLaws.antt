@@ -12,7 +12,6 @@ use lib.ListN.{length, getD, length-append, List·getD-append}
 use lib.Seq.{getD-append-seam}
 use Rattle.number.specs.declared.Refusal.{Refusal}
 use Rattle.number.specs.declared.Refusal.the-variants.{Pool}
-use Rattle.number.specs.Limits.{pool}
 use Rattle.meaning.specs.Re.{Re}
 use Rattle.meaning.specs.Derive.{deriv}
 use Rattle.meaning.specs.Tests.{clash, and-true, true-and}
@@ -119,23 +118,23 @@ module _ (way : Way) (place : ℕ) (h : Held) (y : Item) where
   pub data Came : Step → Type 0 where
     held : (j : ℕ) → j < count h → Pair (item h j) y → j ≡ numberIn (h .items) y → Came (reached h j)
     full : Unmet h y → way .limit ≤ count h → Came (stopped (way .full place))
-    over : Unmet h y → count h < way .limit → pool < length (added h y .pool) → Came (stopped (Pool place))
-    new : Unmet h y → count h < way .limit → length (added h y .pool) ≤ pool → Came (reached (added h y) (count h))
+    over : Unmet h y → count h < way .limit → way .terms < length (added h y .pool) → Came (stopped (Pool place))
+    new : Unmet h y → count h < way .limit → length (added h y .pool) ≤ way .terms → Came (reached (added h y) (count h))
 
   pub came : Came (come way place h y)
   unfolding come
-  came = go (ltb (numberIn (h .items) y) (count h)) refl (leb (way .limit) (count h)) refl (ltb pool (length (added h y .pool))) refl
+  came = go (ltb (numberIn (h .items) y) (count h)) refl (leb (way .limit) (count h)) refl (ltb (way .terms) (length (added h y .pool))) refl
     where
       unmet : ltb (numberIn (h .items) y) (count h) ≡ false → Unmet h y
       unmet e = omega (arith, ltb-false (numberIn (h .items) y) (count h) e, number-most (h .items) y)
 
       go : (b : Bool) → ltb (numberIn (h .items) y) (count h) ≡ b → (d : Bool) → leb (way .limit) (count h) ≡ d → (f : Bool)
-          → ltb pool (length (added h y .pool)) ≡ f
+          → ltb (way .terms) (length (added h y .pool)) ≡ f
           → Came (cond b (reached h (numberIn (h .items) y)) (cond d (stopped (way .full place)) (cond f (stopped (Pool place)) (reached (added h y) (count h)))))
       go true e d g f k = let l = ltb-true (numberIn (h .items) y) (count h) e in held (numberIn (h .items) y) l (number-pair (h .items) y l) refl
       go false e true g f k = full (unmet e) (leb-true (way .limit) (count h) g)
-      go false e false g true k = over (unmet e) (leb-false (way .limit) (count h) g) (ltb-true pool (length (added h y .pool)) k)
-      go false e false g false k = new (unmet e) (leb-false (way .limit) (count h) g) (ltb-false pool (length (added h y .pool)) k)
+      go false e false g true k = over (unmet e) (leb-false (way .limit) (count h) g) (ltb-true (way .terms) (length (added h y .pool)) k)
+      go false e false g false k = new (unmet e) (leb-false (way .limit) (count h) g) (ltb-false (way .terms) (length (added h y .pool)) k)
 
 pub reached-held : {h h′ : Held} {j j′ : ℕ} → reached h j ≡ reached h′ j′ → h ≡ h′
 reached-held e = cc

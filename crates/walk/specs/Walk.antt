@@ -7,7 +7,7 @@ use lib.Dec.{ltb, leb, eqb}
 use lib.ListN.{length, getD}
 use Rattle.number.specs.declared.Refusal.{Refusal}
 use Rattle.number.specs.declared.Refusal.the-variants.{Long, Pool}
-use Rattle.number.specs.Limits.{bytes, pool}
+use Rattle.number.specs.Limits.{bytes}
 use Rattle.meaning.specs.Re.{Re, Text}
 use Rattle.walk.specs.Vectors.{Vector, derived, normalised, sameVector}
 use Rattle.walk.specs.Vectors.Vector.{TooLong, Terms}
@@ -44,10 +44,12 @@ pub data Step : Type 0 where
   stopped : Refusal → Step
   reached : Held → ℕ → Step
 
--- where a walk goes: how the sheet moves, how many items may be held, the refusal of one more at a place, and the number that is told for an item
+-- where a walk goes: how the sheet moves, how many items may be held and how many terms, the refusal of an item more at a place, and the number
+-- that is told for an item
 pub record Way : Type 0 where
   pub go : ℕ → ℕ → ℕ
   pub limit : ℕ
+  pub terms : ℕ
   pub full : ℕ → Refusal
   pub told : List Item → ℕ → ℕ
 
@@ -59,7 +61,7 @@ unfoldable pub come : Way → ℕ → Held → Item → Step
 come way place h x =
     cond (ltb (numberIn (h .items) x) (length (h .items))) (reached h (numberIn (h .items) x))
     (cond (leb (way .limit) (length (h .items))) (stopped (way .full place))
-    (cond (ltb pool (length (added h x .pool))) (stopped (Pool place))
+    (cond (ltb (way .terms) (length (added h x .pool))) (stopped (Pool place))
     (reached (added h x) (length (h .items)))))
 
 -- the pair after byte c, from an item

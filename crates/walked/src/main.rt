@@ -8,11 +8,11 @@ use libc::STDOUT_FILENO;
 use lines::LINE_ROOM;
 use number::Refusal;
 use number::limits::BOOK_FILE;
-use number::limits::SHEET_FILE;
 use number::limits::SHOWN_TEXT;
 use number::limits::STATES;
 use number::limits::TABLE_CELLS;
 use table::Counted;
+use table::LONGEST_SHEET;
 use table::Written;
 use vector::layout::WORK_LENGTH;
 
@@ -121,7 +121,7 @@ fn cut_case<'a>(count: usize, labels: &'a [u8], targets: &'a [u8], name: &[u8]) 
 
 // A table's states and the length of its sheet.
 fn say_table<'a>(count: usize, labels: &'a [u8], targets: &'a [u8]) {
-    let mut sheet = [0u8; SHEET_FILE];
+    let mut sheet = [0u8; LONGEST_SHEET];
     say_number(count);
     say(b" states, ");
     match table::write_sheet(count, labels, targets, &mut sheet) {
@@ -186,7 +186,7 @@ fn say_compared(answer: Compared, text: &[u8]) {
 // A book against a sheet: the sheet's faults come first, since it is loaded first; then the book's, then the walk's.
 fn compare_case(book_name: &[u8], sheet_name: &[u8]) {
     let mut book = [0u8; BOOK_FILE];
-    let mut sheet = [0u8; SHEET_FILE];
+    let mut sheet = [0u8; LONGEST_SHEET];
     let mut labels = [0u8; STATES];
     let mut targets = [0u8; TABLE_CELLS];
     let mut text = [0u8; SHOWN_TEXT];

@@ -4,10 +4,8 @@ use crate::say;
 use number::limits::STATES;
 use number::limits::TABLE_CELLS;
 use table::Counted;
+use table::LONGEST_SHEET;
 use table::Written;
-
-// More than any sheet takes.
-const SHEET_MOST: usize = 66048;
 
 // Sheets of many states are made of one state over and over: what that takes, and what stands in front.
 const STATE_BYTES: usize = 5;
@@ -39,7 +37,7 @@ fn compared(sheet: &[u8], out: &[u8], end: usize) {
 fn tried_back(name: &[u8], sheet: &[u8]) {
     let mut labels = [0u8; STATES];
     let mut targets = [0u8; TABLE_CELLS];
-    let mut out = [0u8; SHEET_MOST];
+    let mut out = [0u8; LONGEST_SHEET];
     say::label(b"sheet and back ", name);
     let loaded = table::load(sheet, &mut labels, &mut targets);
     let Counted::States(s) = loaded else {
@@ -63,6 +61,8 @@ pub(crate) fn heads() {
     tried(b"version 2", b"\x02\x01\x00\x01\x80\x02\x00");
     tried(b"0 states", b"\x01\x00");
     tried(b"129 states said", b"\x01\x81\x01\x00\x01\x80\x02\x00");
+    tried(b"255 states said", b"\x01\xff\x01\x00\x01\x80\x02\x00");
+    tried(b"256 states said", b"\x01\x80\x02\x00\x01\x80\x02\x00");
     tried(b"label 32", b"\x01\x01\x20\x01\x80\x02\x00");
     tried(b"label 33", b"\x01\x01\x21\x01\x80\x02\x00");
     tried(b"0 runs", b"\x01\x01\x00\x00");
@@ -70,6 +70,14 @@ pub(crate) fn heads() {
     tried(b"length 0", b"\x01\x01\x00\x01\x00\x00");
     tried(b"length 257", b"\x01\x01\x00\x01\x81\x02\x00");
     tried(b"target 1 of 1 state", b"\x01\x01\x00\x01\x80\x02\x01");
+    tried(
+        b"target 254 of 255 states",
+        b"\x01\xff\x01\x00\x01\x80\x02\xfe\x01",
+    );
+    tried(
+        b"target 255 of 255 states",
+        b"\x01\xff\x01\x00\x01\x80\x02\xff\x01",
+    );
 }
 
 // Runs that do not cover the bytes once, and bytes that lack or are left.
@@ -121,21 +129,29 @@ fn put_states(sheet: &mut [u8]) {
     }
 }
 
-// The most states, and one more.
+// A sheet of as many such states as it has room for, whose count is given in two groups.
+fn tried_states(name: &[u8], low: u8, high: u8, sheet: &mut [u8]) {
+    if sheet.len() < HEAD_BYTES {
+        return;
+    }
+    put_states(sheet);
+    sheet[0] = 1;
+    sheet[1] = low;
+    sheet[2] = high;
+    tried(name, sheet);
+    tried_back(name, sheet);
+}
+
+// As many states as a table had at first and one more, as many as there may be, and one more.
 pub(crate) fn sizes() {
-    let mut most = [0u8; 643];
-    put_states(&mut most);
-    most[0] = 1;
-    most[1] = 0x80;
-    most[2] = 1;
-    tried(b"128 states", &most);
-    tried_back(b"128 states", &most);
-    let mut over = [0u8; 648];
-    put_states(&mut over);
-    over[0] = 1;
-    over[1] = 0x81;
-    over[2] = 1;
-    tried(b"129 states", &over);
+    let mut older = [0u8; HEAD_BYTES + STATE_BYTES * 128];
+    let mut newer = [0u8; HEAD_BYTES + STATE_BYTES * 129];
+    let mut most = [0u8; HEAD_BYTES + STATE_BYTES * STATES];
+    let mut over = [0u8; HEAD_BYTES + STATE_BYTES * (STATES + 1)];
+    tried_states(b"128 states", 0x80, 1, &mut older);
+    tried_states(b"129 states", 0x81, 1, &mut newer);
+    tried_states(b"255 states", 0xff, 1, &mut most);
+    tried_states(b"256 states", 0x80, 2, &mut over);
 }
 
 // Read and written back.

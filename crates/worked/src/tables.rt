@@ -31,10 +31,10 @@ pub(crate) fn rooms() {
     let mut few_labels = [0u8; STATES - 1];
     let mut few_targets = [0u8; TABLE_CELLS - 1];
     let mut more_labels = [0u8; STATES + 1];
-    tried_load(b"127 labels", sheet, &mut few_labels, &mut targets);
-    tried_load(b"32767 targets", sheet, &mut labels, &mut few_targets);
-    tried_load(b"127 labels, no bytes", b"", &mut few_labels, &mut targets);
-    tried_load(b"129 labels", sheet, &mut more_labels, &mut targets);
+    tried_load(b"254 labels", sheet, &mut few_labels, &mut targets);
+    tried_load(b"65279 targets", sheet, &mut labels, &mut few_targets);
+    tried_load(b"254 labels, no bytes", b"", &mut few_labels, &mut targets);
+    tried_load(b"256 labels", sheet, &mut more_labels, &mut targets);
 }
 
 // Output that is long enough, and too short; what stands past the first state does not matter.
@@ -59,7 +59,14 @@ pub(crate) fn unformed() {
     let mut out = [0u8; 20];
     let mut none = [0u8; 0];
     tried_write(b"0 states", 0, &labels, &targets, &mut out);
-    tried_write(b"129 states", 129, &many_labels, &many_targets, &mut out);
+    tried_write(b"256 states", 256, &many_labels, &many_targets, &mut out);
+    tried_write(
+        b"255 states into 20 bytes",
+        255,
+        &many_labels,
+        &many_targets,
+        &mut out,
+    );
     tried_write(b"a label 33", 2, &labels, &targets, &mut out);
     tried_write(b"2 states, 1 label", 2, &labels[0..1], &targets, &mut out);
     tried_write(

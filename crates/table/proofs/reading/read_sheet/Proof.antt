@@ -45,7 +45,7 @@ enum-told c = search needs
 returns : tie.Need-returns
 returns c =
     let told = ap taken (c .enum-told .given .1) in
-    table-stopped _ (sheet-no-version _ (sym (c .before .before .read-field .ensures) ∙ told)) told
+    table-stopped _ (sheet-no-version _ states (sym (c .before .before .read-field .ensures) ∙ told)) told
 
 read-field-requires-2 : tie.Need-read-field-requires-2
 read-field-requires-2 c κs = search needs
@@ -59,7 +59,7 @@ enum-told-2 c = search needs
 returns-2 : tie.Need-returns-2
 returns-2 c =
     let told = ap taken (c .enum-told2 .given .1) in
-    table-stopped _ (sheet-no-count _ (version-got (c .before .before .before .before)) (sym (c .before .before .read-field2 .ensures) ∙ told)) told
+    table-stopped _ (sheet-no-count _ states (version-got (c .before .before .before .before)) (sym (c .before .before .read-field2 .ensures) ∙ told)) told
 
 read-states-requires : tie.Need-read-states-requires
 read-states-requires c κs =
@@ -86,7 +86,7 @@ returns-3 c =
     let count = counted .count .given .0 in
     let rows = readStates (counted .before .before .before .before .before .before .before .before .before .before .args .sheet .now) (count .0) (count .0) (count .1 .0) in
     let refused-at = rows-refused {x = rows} (c .before .before .before .before .before .before .read-states .ensures) told in
-    table-stopped _ (sheet-no-states _ (version-got (counted .before .before .before .before)) (count-got counted) refused-at) told
+    table-stopped _ (sheet-no-states _ states (version-got (counted .before .before .before .before)) (count-got counted) refused-at) told
 
 same-length-3 : tie.Need-same-length-3
 same-length-3 c = search needs
@@ -97,7 +97,7 @@ same-length-4 c = search needs
 returns-4 : tie.Need-returns-4
 returns-4 c =
     let counted = c .before .before .before .before .before .before .before .before .before .before .before .before in
-    table-stopped _ (sheet-tail _ (version-got (counted .before .before .before .before)) (count-got counted) (states-got (c .before .before) .is) (c .if1 .taken)) refl
+    table-stopped _ (sheet-tail _ states (version-got (counted .before .before .before .before)) (count-got counted) (states-got (c .before .before) .is) (c .if1 .taken)) refl
 
 same-length-5 : tie.Need-same-length-5
 same-length-5 c = search needs
@@ -109,7 +109,7 @@ returns-5 : tie.Need-returns-5
 returns-5 c =
     let counted = c .before .before .before .before .before .before .before .before .before .before .before .before in
     let rows = states-got (c .before .before) in
-    let whole = sheet-got _ (version-got (counted .before .before .before .before)) (count-got counted) (rows .is) (c .if1 .left) in
+    let whole = sheet-got _ states (version-got (counted .before .before .before .before)) (count-got counted) (rows .is) (c .if1 .left) in
     table-got whole (rows .is) (sub-self _) (c .before .before .before .before .before .before .before .before .read-states .ensures) refl
 
 pub read-sheet-spec : {M : Type 1} → statement M
