@@ -65,7 +65,7 @@ static void cut(size_t count, const char *text)
 /* Writes the table as its sheet, and reads that back into fresh areas. */
 static void keep(size_t count)
 {
-    static uint8_t sheet[1024], labels_read[LUBI_STATES], targets_read[LUBI_TARGETS];
+    static uint8_t sheet[LUBI_SHEET], labels_read[LUBI_STATES], targets_read[LUBI_TARGETS];
     size_t answer[LUBI_ANSWER];
     size_t code = lubi_write_sheet(count, labels, LUBI_STATES, targets, LUBI_TARGETS, sheet, sizeof sheet, answer);
     size_t length = answer[0];
@@ -77,6 +77,31 @@ static void keep(size_t count)
     printf("well formed: code %zu\n", code);
     code = lubi_load(sheet, length - 1, labels_read, LUBI_STATES, targets_read, LUBI_TARGETS, answer);
     printf("one byte early: refused %zu at %zu\n", code, answer[0]);
+    code = lubi_write_sheet(count, labels, LUBI_STATES, targets, LUBI_TARGETS, sheet, length - 1, answer);
+    printf("into a byte less: refused %zu\n", code);
+}
+
+/* A table of as many states as there may be, in which each byte leads elsewhere than the one before: its sheet is the longest there is. */
+static size_t make_largest(void)
+{
+    memset(labels, 1, sizeof labels);
+    for (size_t i = 0; i < LUBI_TARGETS; i++)
+        targets[i] = (uint8_t)(LUBI_STATES - 1 - i % 2);
+    return LUBI_STATES;
+}
+
+/* Areas of just their full size are taken; with one cell less a call is refused. */
+static void short_areas(void)
+{
+    uint8_t text[LUBI_TEXT];
+    size_t answer[LUBI_ANSWER];
+    size_t few_labels = lubi_build(book, sizeof book, labels, LUBI_STATES - 1, targets, LUBI_TARGETS, work, LUBI_WORK, answer);
+    size_t few_targets = lubi_build(book, sizeof book, labels, LUBI_STATES, targets, LUBI_TARGETS - 1, work, LUBI_WORK, answer);
+    size_t little_work = lubi_build(book, sizeof book, labels, LUBI_STATES, targets, LUBI_TARGETS, work, LUBI_WORK - 1, answer);
+    size_t short_text =
+        lubi_compare(book, sizeof book, 1, labels, LUBI_STATES, targets, LUBI_TARGETS, text, LUBI_TEXT - 1, work, LUBI_WORK, answer);
+    printf("one cell less: refused %zu for labels, %zu for targets, %zu for the work area, %zu for the text\n", few_labels, few_targets,
+        little_work, short_text);
 }
 
 /* Compares the book with the table. */
@@ -137,5 +162,8 @@ int main(void)
     /* A book that ends one byte early: the table area is left empty. */
     count = build(sizeof book - 1);
     cut(count, "1");
+
+    keep(make_largest());
+    short_areas();
     return 0;
 }

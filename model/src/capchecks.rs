@@ -8,7 +8,7 @@ use crate::edges::{all, crossing_book, meetings, memory_book, Edge, Meeting};
 use crate::limits::{Caps, CAPS, OLDER, SHEET_FILE, SHOWN};
 use crate::programs;
 use crate::raised_builds::raised_edges;
-use crate::raised_meetings::raised_meetings;
+use crate::raised_meetings::{raised_meetings, slowest};
 use crate::raised_sheets::{raised_sheets, Lent, LONGEST};
 use crate::refusal::{Fault, Refusal};
 use crate::selftest::Checks;
@@ -31,6 +31,10 @@ pub fn run(checks: &mut Checks) {
         comparisons::least_texts(checks, &book, &table, CAPS);
         raising_comparisons(checks, &book, &table);
     }
+    let Meeting { name, book, table, expect } = slowest();
+    let lines =
+        compare(&book, &table).map_or_else(|refusal| refusal.line(), |answer| answer.lines());
+    checks.check(name, lines == expect);
     for lent in raised_sheets() {
         whole_sheet(checks, &lent);
     }
@@ -64,7 +68,11 @@ fn outcome(edge: &Edge) -> String {
 fn build_by_texts(checks: &mut Checks, edge: &Edge) {
     let (book, one) = (&edge.book, sheets::lone(0));
     let caps = Caps { pairs: CAPS.states - 1, ..CAPS };
-    let built = build_by(book, &alike(book), CAPS).err();
+    let built = build_by(book, &alike(book), CAPS);
+    if built.as_ref().is_ok_and(|built| built.table.targets.contains(&0)) {
+        return;
+    }
+    let built = built.err();
     if built.is_some() {
         // Texts tell slowly; the places of refusals are worth it.
         comparisons::least_texts(checks, book, &one, caps);

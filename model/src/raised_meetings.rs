@@ -5,7 +5,7 @@ use crate::book::{alt, cat, literal, one, power, star, Book, Expr};
 use crate::edges::{
     crossing_book, differs, growing, meet, memory_book, remembering, row_of_a, rule, Meeting,
 };
-use crate::raised_builds::{nodes_255, nodes_256};
+use crate::raised_builds::{ends_odd, nodes_255, nodes_256};
 use crate::sheet::Table;
 use crate::sheets::{apart, chain, clock, counter, funnel, lone, relabelled, spread};
 use crate::starts::{any, own};
@@ -141,4 +141,11 @@ fn texts() -> Vec<Meeting> {
         late("512 bytes", 512, zeros(512)),
         late("513 pairs, one for each length", 513, "refused 12 512\n".to_string()),
     ]
+}
+
+/// The slowest comparison that was found: many pairs, and each byte derived by itself.
+/// It stands alone, since telling it text by text would take minutes.
+pub fn slowest() -> Meeting {
+    let book = Book::of(vec![ends_odd(125), ends_odd(109), star(any(10))]);
+    meet("510 pairs, 251 runs each", book, clock(17, 0), differs(&[1], 1, 0))
 }

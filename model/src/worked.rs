@@ -9,7 +9,7 @@ use crate::faults;
 use crate::limits::{Caps, BOOK_FILE, BYTES, CAPS, OLDER, TEXT_FILE};
 use crate::prng::Rng;
 use crate::raised_builds::raised_edges;
-use crate::raised_meetings::raised_meetings;
+use crate::raised_meetings::{raised_meetings, slowest};
 use crate::raised_sheets::{beginning_cases, raised_sheet_cases};
 use crate::random::joined_text;
 use crate::sheet::{self, Table};
@@ -102,7 +102,7 @@ pub fn raised_limit_cases(rng: &mut Rng) -> Vec<Case> {
 
 /// Comparisons that just meet or pass a raised cap.
 pub fn raised_meeting_cases(rng: &mut Rng) -> Vec<Case> {
-    raised_meetings().iter().map(|meeting| met(rng, meeting)).collect()
+    raised_meetings().iter().chain([&slowest()]).map(|meeting| met(rng, meeting)).collect()
 }
 
 fn met(rng: &mut Rng, meeting: &Meeting) -> Case {

@@ -112,3 +112,8 @@ module _ {s : List ℕ} {top : ℕ} {s′ : List ℕ} {root top′ more : ℕ} {
         kept-below = m .grown .kept-below;
         kept-above = λ i l. m .grown .kept-above i (omega arith);
       })
+
+-- and where it is known to fit it need not be
+pub fits-made : {s : List ℕ} {top : ℕ} {s′ : List ℕ} {root top′ more : ℕ} {v : Re} → Makes s top s′ root top′ v more → short (term s′ root) ≡ true
+    → MadeBy s top s′ (Term root top′) (fit v) more
+fits-made m h = short-made m (sym h) refl

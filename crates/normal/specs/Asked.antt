@@ -56,6 +56,12 @@ pub record Choices (s : List ℕ) (top a b : ℕ) : Type 0 where
   pub right-shape : InShape (term s b)
   pub room : Room s top (members (term s a) + members (term s b))
 
+-- each of which fits
+pub record ShortChoices (s : List ℕ) (top a b : ℕ) : Type 0 where
+  pub choices : Choices s top a b
+  pub left-short : short (term s a) ≡ true
+  pub right-short : short (term s b) ≡ true
+
 -- neither of which is Nothing
 pub record Unites (s : List ℕ) (top a b : ℕ) : Type 0 where
   pub choices : Choices s top a b

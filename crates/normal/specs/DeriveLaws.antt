@@ -28,7 +28,7 @@ use Rattle.term.specs.CellLaws.{sound-less, grown-refl, grown-trans, grown-term
 use Rattle.term.specs.ReadLaws.{cat-size, alt-size, star-size}
 use Rattle.normal.specs.declared.Made.{Made}
 use Rattle.normal.specs.declared.Made.the-variants.{Term as Made·term, Long as Made·long}
-use Rattle.normal.specs.Asked.{members, catCells, altCells, mostMembers, derivRoom, derivCells, Links, Choices, Derives}
+use Rattle.normal.specs.Asked.{members, catCells, altCells, mostMembers, derivRoom, derivCells, Links, Choices, ShortChoices, Derives}
 use Rattle.normal.specs.Builds.{rangeLeft}
 use Rattle.normal.specs.Made.{MadeBy}
 use Rattle.normal.specs.ChainLaws.{cat-few, cat-idle-left}
@@ -406,32 +406,36 @@ module _ {s : List ℕ} {top i : ℕ} (d : Derives s top i) where
           few-3 : third ≤ top + (derivCells (term s a) + catCells (g .value) (term s b) + derivCells (term s b))
           few-3 = omega (arith, few-2, k .makes .few, ap derivCells b-stays-2)
 
-          pub cat-last : Choices s₃ third left db
+          pub cat-last : ShortChoices s₃ third left db
           cat-last =
               record {
-                sound = k .makes .grown .sound;
-                left = omega (arith, h .makes .within, k .makes .grown .up);
-                right = k .makes .within;
-                left-shape = rw left-stays left-shape;
-                right-shape = rw (k .makes .is) db-shape;
-                room = omega (
-                  arith,
-                  ap members left-stays,
-                  ap members (k .makes .is),
-                  short-members (h .value) left-short,
-                  short-members (k .value) db-short,
-                  few-3,
-                  middle-few,
-                  k .makes .grown .same-length,
-                  grown-2 .same-length,
-                  d .room,
-                  cells-size (term s a),
-                  cells-size (term s b),
-                  room-size (term s i),
-                  cat-size s i a b f,
-                  size-some (term s a),
-                  size-some (term s b),
-                );
+                choices = record {
+                  sound = k .makes .grown .sound;
+                  left = omega (arith, h .makes .within, k .makes .grown .up);
+                  right = k .makes .within;
+                  left-shape = rw left-stays left-shape;
+                  right-shape = rw (k .makes .is) db-shape;
+                  room = omega (
+                    arith,
+                    ap members left-stays,
+                    ap members (k .makes .is),
+                    short-members (h .value) left-short,
+                    short-members (k .value) db-short,
+                    few-3,
+                    middle-few,
+                    k .makes .grown .same-length,
+                    grown-2 .same-length,
+                    d .room,
+                    cells-size (term s a),
+                    cells-size (term s b),
+                    room-size (term s i),
+                    cat-size s i a b f,
+                    size-some (term s a),
+                    size-some (term s b),
+                  );
+                };
+                left-short = rw left-stays left-short;
+                right-short = rw (k .makes .is) db-short;
               }
 
           last-cells : altCells (term s₃ left) (term s₃ db) ≡ altCells (h .value) (k .value)
@@ -526,31 +530,35 @@ module _ {s : List ℕ} {top i : ℕ} (d : Derives s top i) where
         few-both : second ≤ top + (derivCells (term s a) + derivCells (term s b))
         few-both = omega (arith, g .makes .few, h .makes .few, ap derivCells b-kept)
 
-        pub alt-last : Choices s₂ second da db
+        pub alt-last : ShortChoices s₂ second da db
         alt-last =
             record {
-              sound = h .makes .grown .sound;
-              left = omega (arith, g .makes .within, h .makes .grown .up);
-              right = h .makes .within;
-              left-shape = rw da-stays first-shape;
-              right-shape = rw (h .makes .is) second-shape;
-              room = omega (
-                arith,
-                ap members da-stays,
-                ap members (h .makes .is),
-                short-members (g .value) first-short,
-                short-members (h .value) second-short,
-                few-both,
-                h .makes .grown .same-length,
-                g .makes .grown .same-length,
-                d .room,
-                cells-size (term s a),
-                cells-size (term s b),
-                room-size (term s i),
-                alt-size s i a b f,
-                size-some (term s a),
-                size-some (term s b),
-              );
+              choices = record {
+                sound = h .makes .grown .sound;
+                left = omega (arith, g .makes .within, h .makes .grown .up);
+                right = h .makes .within;
+                left-shape = rw da-stays first-shape;
+                right-shape = rw (h .makes .is) second-shape;
+                room = omega (
+                  arith,
+                  ap members da-stays,
+                  ap members (h .makes .is),
+                  short-members (g .value) first-short,
+                  short-members (h .value) second-short,
+                  few-both,
+                  h .makes .grown .same-length,
+                  g .makes .grown .same-length,
+                  d .room,
+                  cells-size (term s a),
+                  cells-size (term s b),
+                  room-size (term s i),
+                  alt-size s i a b f,
+                  size-some (term s a),
+                  size-some (term s b),
+                );
+              };
+              left-short = rw da-stays first-short;
+              right-short = rw (h .makes .is) second-short;
             }
 
         both-cells : altCells (term s₂ da) (term s₂ db) ≡ altCells (g .value) (h .value)

@@ -6,7 +6,7 @@ ghost use lib.ListN.{length};
 ghost use Rattle.number.specs.Limits.{lastByte};
 ghost use Rattle.meaning.specs.Edges.{nextEdge};
 ghost use Rattle.term.specs.Cells.{term, Below, Sound};
-ghost use Rattle.normal.specs.Asked.{Links, Choices, Unites, Derives};
+ghost use Rattle.normal.specs.Asked.{Links, Choices, ShortChoices, Unites, Derives};
 ghost use Rattle.normal.specs.Builds.{Stores, Chains, Cats, Heads, United, Alts, Stars, CatFits, AltFits, Leaf, rangeLeft, Derived};
 use number::limits::BYTES;
 use term::Order;
@@ -193,6 +193,22 @@ pub fn alt_fit(cells: &mut [u64], top: usize, a: usize, b: usize) -> Made
     }
 }
 
+// The choice of two terms that fit: with Nothing on a side the other is the answer, and needs no counting.
+fn alt_short(cells: &mut [u64], top: usize, a: usize, b: usize) -> Made
+    requires { ⌜ ShortChoices (now cells) top a b ⌝ }
+    ensures { λ r. ⌜ AltFits (now (cells .entry)) top a b (now (cells .exit)) r ⌝ }
+{
+    let x = term::node_at(cells, a);
+    if term::is_nothing(x) {
+        return Made::Term(b, top);
+    }
+    let y = term::node_at(cells, b);
+    if term::is_nothing(y) {
+        return Made::Term(a, top);
+    }
+    alt_fit(cells, top, a, b)
+}
+
 // What a range leaves to match after a byte.
 fn read_range(lo: usize, hi: usize, byte: usize) -> Term
     ensures { λ r. ⌜ r ≡ rangeLeft lo hi byte ⌝ }
@@ -238,7 +254,7 @@ pub fn derive(cells: &mut [u64], top: usize, i: usize, byte: usize) -> Made
                 let Made::Term(db, third) = derive(cells, second, b, byte) else {
                     return Made::Long;
                 };
-                return alt_fit(cells, third, left, db);
+                return alt_short(cells, third, left, db);
             }
             Made::Term(left, second)
         }
@@ -249,7 +265,7 @@ pub fn derive(cells: &mut [u64], top: usize, i: usize, byte: usize) -> Made
             let Made::Term(db, second) = derive(cells, first, b, byte) else {
                 return Made::Long;
             };
-            alt_fit(cells, second, da, db)
+            alt_short(cells, second, da, db)
         }
         Term::Star(a) => {
             let Made::Term(da, first) = derive(cells, top, a, byte) else {

@@ -7,5 +7,6 @@ pub mod PoolLaws
 pub mod IndexLaws
 pub mod NodeLaws
 pub mod ClosedLaws
+pub mod FindLaws
 pub mod CopyLaws
 pub mod PutLaws

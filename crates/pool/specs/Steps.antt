@@ -8,7 +8,7 @@ use lib.Dec.{eqb}
 use lib.ListN.{getD}
 use Rattle.meaning.specs.Re.{Re, size}
 use Rattle.term.specs.declared.Term.{Term}
-use Rattle.term.specs.Cells.{nodeOf}
+use Rattle.term.specs.Cells.{nodeOf, term}
 use Rattle.term.specs.Area.{Makes}
 use Rattle.term.specs.Nodes.{kindOf, firstOf, secondOf}
 
@@ -21,6 +21,10 @@ pub record Looked (s : List ℕ) (top : ℕ) (u : Term) (r : ℕ) : Type 0 where
   pub within : r ≤ top
   pub there : r < top → nodeOf (getD s r 0) ≡ u
   pub absent : top ≤ r → (k : ℕ) → k < top → nodeOf (getD s k 0) ≡ u → ⊥
+
+-- r is a cell below top that holds the term of cell i, or it was not found
+pub record Seen (s : List ℕ) (top i r : ℕ) : Type 0 where
+  pub there : r < top → term s r ≡ term s i
 
 -- the tree of v was stored from place `at` on, one cell a tree node, its root last
 pub record Copied (out : List ℕ) (at : ℕ) (out′ : List ℕ) (end : ℕ) (v : Re) : Type 0 where

@@ -11,7 +11,7 @@ ghost use Rattle.term.specs.Nodes.{Fields};
 ghost use Rattle.walk.specs.Parts.{withTerm};
 ghost use Rattle.pool.specs.Pooled.{termsOf};
 ghost use Rattle.pool.specs.Index.{poolCells, indexCells, hashOf, chained, Indexed, Open, After, Put};
-ghost use Rattle.pool.specs.Steps.{sameNode, Looked, Copied};
+ghost use Rattle.pool.specs.Steps.{sameNode, Looked, Seen, Copied};
 use number::limits::POOL;
 use number::limits::RULES;
 use number::limits::TREE_NODES;
@@ -28,6 +28,11 @@ pub const POOL_CELLS: usize = POOL + RULES * TREE_NODES;
 const HEADS: usize = POOL;
 
 pub const INDEX_CELLS: usize = HEADS + POOL_CELLS;
+
+// The places of two kinds in the order of terms: kinds below Cat have no children.
+const CAT: usize = 3;
+
+const STAR: usize = 5;
 
 // The cell of a term, and the next free cell.
 pub struct Placed {
@@ -105,6 +110,39 @@ pub fn put_node(index: &mut [usize], cells: &mut [u64], top: usize, node: Term) 
     }
 }
 
+// The cell of the pool that holds the term in cell `i`, which may stand in scratch above the pool, or `top` where it is not found.
+// Only nodes in scratch are gone over, and nothing is copied.
+fn find_term(index: &[usize], cells: &[u64], top: usize, i: usize) -> usize
+    requires { ⌜ Indexed (now index) (now cells) top ⌝ }
+    requires { ⌜ Sound (now cells) top ⌝ }
+    requires { ⌜ Sound (now cells) (i + 1) ⌝ }
+    ensures { λ r. ⌜ Seen (now (cells .entry)) top i r ⌝ }
+{
+    if i < top {
+        return i;
+    }
+    let node = node_at(cells, i);
+    let kind = kind_of(node);
+    if kind < CAT {
+        return find_cell(index, cells, top, node);
+    }
+    let left = find_term(index, cells, top, first_of(node));
+    if top <= left {
+        return top;
+    }
+    if kind == STAR {
+        return find_cell(index, cells, top, Term::Star(left));
+    }
+    let right = find_term(index, cells, top, second_of(node));
+    if top <= right {
+        return top;
+    }
+    if kind == CAT {
+        return find_cell(index, cells, top, Term::Cat(left, right));
+    }
+    find_cell(index, cells, top, Term::Alt(left, right))
+}
+
 // Copies the tree of a term to another area, children first; the answer is the place after it.
 pub fn copy_out(cells: &[u64], i: usize, out: &mut [u64], at: usize) -> usize
     requires { ⌜ Sound (now cells) (i + 1) ⌝ }
@@ -164,6 +202,7 @@ pub fn put_copy(out: &[u64], k: usize, index: &mut [usize], cells: &mut [u64], t
 }
 
 // Puts the term in cell `i`, in the pool or in scratch above it, into the pool at `top`; the scratch is given up.
+// Most derivatives are held already, and then nothing is put.
 pub fn put_term(index: &mut [usize], cells: &mut [u64], top: usize, i: usize) -> Placed
     requires { ⌜ Open (now index) (now cells) top treeNodes ⌝ }
     requires { ⌜ Sound (now cells) (i + 1) ⌝ }
@@ -171,6 +210,10 @@ pub fn put_term(index: &mut [usize], cells: &mut [u64], top: usize, i: usize) ->
     ensures { λ r. ⌜ Put (now (cells .entry)) top (termsOf (now (cells .entry)) top) (now (index .exit)) (now (cells .exit)) (r .root) (r .top)
         (term (now (cells .entry)) i) (top + size (term (now (cells .entry)) i)) ⌝ }
 {
+    let at = find_term(index, cells, top, i);
+    if at < top {
+        return Placed { root: at, top: top };
+    }
     let mut out = [0u64; TREE_NODES];
     let end = copy_out(cells, i, &mut out, 0);
     put_copy(&out, end - 1, index, cells, top)

@@ -18,7 +18,7 @@ use borrow.Fn.PlainCycle.{Measures, is, falls, and}
 use Rattle.normal.proofs.derive.Reads as derive
 use Rattle.normal.proofs.derive.Kinds as derive-kinds
 use Rattle.normal.proofs.+derive.Lts-derive as derive-lts
-use Rattle.normal.proofs.alt_fit.Reads as alt-fit-reads
+use Rattle.normal.proofs.alt_short.Reads as alt-short-reads
 use Rattle.normal.proofs.cat_fit.Reads as cat-fit-reads
 use Rattle.normal.proofs.leaf.Reads as leaf-reads
 use Rattle.normal.proofs.read_range.Reads as read-range-reads
@@ -51,8 +51,8 @@ K t = (
   cat-fit-reads.Learnt,
   nullable-reads.Asked,
   nullable-reads.Learnt,
-  alt-fit-reads.Asked,
-  alt-fit-reads.Learnt,
+  alt-short-reads.Asked,
+  alt-short-reads.Learnt,
 )
 
 module _ (t : ℕ) where
@@ -186,8 +186,8 @@ module _ (t : ℕ) where
       (cat-cat (c .before .before .before .before .before .before .before .before .before .before)) (c .before .before .before .before .before .before .before .nullable .ensures)
       (c .before .before .before .before .before .before .if1 .taken)) (c .before .before .before .before .derive2 .ensures) (c .enum-told5 .given .1)
 
-  alt-fit-requires : derive-lts.Need-alt-fit-requires (K t) (derive-at t) derive.Post
-  alt-fit-requires c κs = cat-last (c .before .before .before .before .before .before .before .before .before .before .before .before .before .before .before .before .before .before .before .before .before .before .before .before .before .before .before .before .before .before .before .pre .1)
+  alt-short-requires : derive-lts.Need-alt-short-requires (K t) (derive-at t) derive.Post
+  alt-short-requires c κs = cat-last (c .before .before .before .before .before .before .before .before .before .before .before .before .before .before .before .before .before .before .before .before .before .before .before .before .before .before .before .before .before .before .before .pre .1)
       (c .before .before .before .before .before .before .before .before .before .before .before .before .before .before .before .before .before .before .before .before .before .before .before .before .before .before .before .before .before .before .before .args .byte)
       (at-cat (c .before .before .before .before .before .before .before .before .before .before .before .before .before .before .before .before .before .before .before .before .before .before .before .before .before .before))
       (cat-da (c .before .before .before .before .before .before .before .before .before .before .before .before .before .before .before .before .before .before .before))
@@ -204,7 +204,7 @@ module _ (t : ℕ) where
       (at-cat (c .before .before .before .before .before .before .before .before .before .before .before .before .before .before .before .before .before .before .before .before .before .before .before .before .before .before .before .before .before))
       (cat-da (c .before .before .before .before .before .before .before .before .before .before .before .before .before .before .before .before .before .before .before .before .before .before))
       (cat-cat (c .before .before .before .before .before .before .before .before .before .before .before .before .before .before .before)) (c .before .before .before .before .before .before .before .before .before .before .before .before .nullable .ensures)
-      (c .before .before .before .before .before .before .before .before .before .before .before .if1 .taken)) (c .before .before .alt-fit .ensures)
+      (c .before .before .before .before .before .before .before .before .before .before .before .if1 .taken)) (c .before .before .alt-short .ensures)
 
   derive-requires-3 : derive-lts.Need-derive-requires-3 (K t) (derive-at t) derive.Post
   derive-requires-3 c κs = (
@@ -235,8 +235,8 @@ module _ (t : ℕ) where
       (at-alt (c .before .before .before .before .before .before .before .before .before .before .before .before .before .before)) (alt-da (c .before .before .before .before .before .before .before))
       (c .before .before .before .before .derive4 .ensures) (c .enum-told7 .given .1)
 
-  alt-fit-requires-2 : derive-lts.Need-alt-fit-requires-2 (K t) (derive-at t) derive.Post
-  alt-fit-requires-2 c κs = alt-last (c .before .before .before .before .before .before .before .before .before .before .before .before .before .before .before .before .before .before .before .before .before .pre .1)
+  alt-short-requires-2 : derive-lts.Need-alt-short-requires-2 (K t) (derive-at t) derive.Post
+  alt-short-requires-2 c κs = alt-last (c .before .before .before .before .before .before .before .before .before .before .before .before .before .before .before .before .before .before .before .before .before .pre .1)
       (c .before .before .before .before .before .before .before .before .before .before .before .before .before .before .before .before .before .before .before .before .before .args .byte)
       (at-alt (c .before .before .before .before .before .before .before .before .before .before .before .before .before .before .before .before))
       (alt-da (c .before .before .before .before .before .before .before .before .before)) (alt-db (c .before .before))
@@ -285,7 +285,7 @@ module _ (t : ℕ) where
       (c .before .before .before .before .before .before .before .before .before .before .before .before .before .before .before .before .before .before .before .before .before .before .before .before .args .byte)
       (at-alt (c .before .before .before .before .before .before .before .before .before .before .before .before .before .before .before .before .before .before .before))
       (alt-da (c .before .before .before .before .before .before .before .before .before .before .before .before)) (alt-db (c .before .before .before .before .before))
-      (c .before .before .alt-fit2 .ensures)
+      (c .before .before .alt-short2 .ensures)
 
   returns-13 : derive-lts.Need-returns-13 (K t) (derive-at t) derive.Post
   returns-13 c = star-up (c .before .before .before .before .before .before .before .before .before .before .before .before .before .before .before .before .before .pre .1)
@@ -298,8 +298,8 @@ pub +derive-spec : {M : Type 1} → statement M
     (λ c κs. search needs) (λ c. search needs) (leaf-requires t) (λ c. search needs) (leaf-requires-2 t) (λ c. search needs) (λ c κs. search needs)
     (leaf-requires-3 t) (λ c. search needs) (derive-requires t) (λ c. search needs) (λ c. search needs) (λ c. search needs) (returns t)
     (cat-fit-requires t) (λ c. search needs) (λ c. search needs) (λ c. search needs) (returns-2 t) (nullable-requires t) (derive-requires-2 t) (λ c.
-    search needs) (λ c. search needs) (λ c. search needs) (returns-3 t) (alt-fit-requires t) (λ c. search needs) (returns-4 t) (λ c. search needs)
+    search needs) (λ c. search needs) (λ c. search needs) (returns-3 t) (alt-short-requires t) (λ c. search needs) (returns-4 t) (λ c. search needs)
     (derive-requires-3 t) (λ c. search needs) (λ c. search needs) (λ c. search needs) (returns-5 t) (derive-requires-4 t) (λ c. search needs) (λ c.
-    search needs) (λ c. search needs) (returns-6 t) (alt-fit-requires-2 t) (λ c. search needs) (derive-requires-5 t) (λ c. search needs) (λ c. search
+    search needs) (λ c. search needs) (returns-6 t) (alt-short-requires-2 t) (λ c. search needs) (derive-requires-5 t) (λ c. search needs) (λ c. search
     needs) (λ c. search needs) (returns-7 t) (cat-fit-requires-2 t) (λ c. search needs) (returns-8 t) (λ c. search needs) (returns-9 t) (λ c. search
     needs) (returns-10 t) (λ c. search needs) (returns-11 t) (λ c. search needs) (returns-12 t) (λ c. search needs) (returns-13 t)
