@@ -9,6 +9,8 @@ ghost use Rattle.term.specs.Cells.{term, Below, Sound};
 ghost use Rattle.normal.specs.Asked.{Links, Choices, ShortChoices, Unites, Derives};
 ghost use Rattle.normal.specs.Builds.{Stores, Chains, Cats, Heads, United, Alts, Stars, CatFits, AltFits, Leaf, rangeLeft, Derived};
 use number::limits::BYTES;
+use term::ALT;
+use term::CAT;
 use term::Order;
 use term::Term;
 
@@ -23,11 +25,6 @@ pub enum Made {
     Term(usize, usize),
     Long,
 }
-
-// The places of two kinds in the order of terms.
-const CAT: usize = 3;
-
-const ALT: usize = 4;
 
 // Stores one node.
 fn store(cells: &mut [u64], top: usize, node: Term) -> Built

@@ -15,6 +15,8 @@ ghost use Rattle.pool.specs.Steps.{sameNode, Looked, Seen, Copied};
 use number::limits::POOL;
 use number::limits::RULES;
 use number::limits::TREE_NODES;
+use term::CAT;
+use term::STAR;
 use term::Term;
 use term::first_of;
 use term::kind_of;
@@ -28,11 +30,6 @@ pub const POOL_CELLS: usize = POOL + RULES * TREE_NODES;
 const HEADS: usize = POOL;
 
 pub const INDEX_CELLS: usize = HEADS + POOL_CELLS;
-
-// The places of two kinds in the order of terms: kinds below Cat have no children.
-const CAT: usize = 3;
-
-const STAR: usize = 5;
 
 // The cell of a term, and the next free cell.
 pub struct Placed {

@@ -35,10 +35,14 @@ const KIND_SIZE: u64 = 8;
 
 const FIELD_SIZE: u64 = WORK_CELLS as u64;
 
-// The places of two kinds in the order: those before a range have no parts.
+// The places of kinds in the order: those before a range have no parts, and those from Cat on have children.
 const RANGE: usize = 2;
 
-const STAR: usize = 5;
+pub const CAT: usize = 3;
+
+pub const ALT: usize = 4;
+
+pub const STAR: usize = 5;
 
 // The node of a cell.
 fn unpack(cell: u64) -> Term
