@@ -207,9 +207,12 @@ pub fn put_term(index: &mut [usize], cells: &mut [u64], top: usize, i: usize) ->
     ensures { λ r. ⌜ Put (now (cells .entry)) top (termsOf (now (cells .entry)) top) (now (index .exit)) (now (cells .exit)) (r .root) (r .top)
         (term (now (cells .entry)) i) (top + size (term (now (cells .entry)) i)) ⌝ }
 {
-    let at = find_term(index, cells, top, i);
-    if at < top {
-        return Placed { root: at, top: top };
+    let held = find_term(index, cells, top, i);
+    if held < top {
+        return Placed {
+            root: held,
+            top: top,
+        };
     }
     let mut out = [0u64; TREE_NODES];
     let end = copy_out(cells, i, &mut out, 0);
