@@ -1,5 +1,6 @@
 /* A worked example: a rule book is built, texts are cut by its table, and the table is kept as a sheet and compared with the book.
-   The rules are `1` (rule 0) and `1.1` (rule 1). tools/example builds and runs this, and holds it to examples/cut.out. */
+   The rules are `1` (rule 0) and `1.1` (rule 1); at the end others are typed as text, and cut by in the same way.
+   tools/example builds and runs this, and holds it to examples/cut.out. */
 #include <stdio.h>
 #include <string.h>
 
@@ -12,14 +13,18 @@ static const uint8_t book[] = {
     8, 5, 2, '1', '1', 2, '.', '.', 3, 2, '1', '1', 3,
 };
 
+/* The book that is built and that kinds are told from: the one above, until another is typed. */
+static const uint8_t *used = book;
+static size_t used_length = sizeof book;
+
 static uint8_t labels[LUBI_STATES], targets[LUBI_TARGETS];
 static uint64_t work[LUBI_WORK];
 
-/* Builds the first bytes of the book, and says how that ended; the number of states. */
+/* Builds the first bytes of the book in use, and says how that ended; the number of states. */
 static size_t build(size_t length)
 {
     size_t answer[LUBI_ANSWER];
-    size_t code = lubi_build(book, length, labels, LUBI_STATES, targets, LUBI_TARGETS, work, LUBI_WORK, answer);
+    size_t code = lubi_build(used, length, labels, LUBI_STATES, targets, LUBI_TARGETS, work, LUBI_WORK, answer);
     if (code != LUBI_GIVEN) {
         printf("build: refused %zu at %zu\n", code, answer[0]);
         return 0;
@@ -28,11 +33,11 @@ static size_t build(size_t length)
     return answer[0];
 }
 
-/* The kind of a rule that there is. */
+/* The kind of a rule that the book in use has. */
 static size_t kind_of(size_t rule)
 {
     size_t answer[LUBI_ANSWER];
-    return lubi_rule_kind(book, sizeof book, rule, answer) == LUBI_GIVEN && answer[0] == LUBI_KIND ? answer[1] : 0;
+    return lubi_rule_kind(used, used_length, rule, answer) == LUBI_GIVEN && answer[0] == LUBI_KIND ? answer[1] : 0;
 }
 
 /* Cuts the text with room for two words at a time, and goes on where the records were full. */
@@ -132,6 +137,21 @@ static size_t make_table(void)
     return COUNT;
 }
 
+/* Types rules as text. The book that they are becomes the one in use; after a refusal the area holds what it held. */
+static void type_rules(const char *rules, size_t area)
+{
+    static uint8_t typed[LUBI_BOOK];
+    size_t answer[LUBI_ANSWER];
+    size_t code = lubi_type((const uint8_t *)rules, strlen(rules), typed, area, answer);
+    if (code != LUBI_GIVEN) {
+        printf("typed: refused %zu at %zu\n", code, answer[0]);
+        return;
+    }
+    printf("typed: %zu bytes\n", answer[0]);
+    used = typed;
+    used_length = answer[0];
+}
+
 int main(void)
 {
     size_t answer[LUBI_ANSWER];
@@ -165,5 +185,15 @@ int main(void)
 
     keep(make_largest());
     short_areas();
+
+    /* Rules typed as text: the word `to`, and words of small letters. */
+    type_rules("1:to\n2:<lower>+\n", LUBI_BOOK);
+    count = build(used_length);
+    cut(count, "tom");
+    cut(count, "to7");
+    /* The name of the set does not go on with a plus; a kind is too large, on the second line; the area has a byte less than it needs. */
+    type_rules("1:to\n2:<lower+\n", LUBI_BOOK);
+    type_rules("1:to\n16384:<lower>+\n", LUBI_BOOK);
+    type_rules("1:to\n2:<lower>+\n", LUBI_BOOK - 1);
     return 0;
 }

@@ -3,20 +3,23 @@
 
    ONE SCHEME FOR EVERY CALL. A call returns a code and writes all four numbers of `answer`.
      code 0         the call gave its answer; `answer` holds its numbers as said at the call, and 0 where nothing is said.
-     code 1 to 13   the call refused: the code is the refusal's number in the table of numbered refusals (LUBI_SHORT and so on),
+     code 1 to 14   the call refused: the code is the refusal's number in the table of numbered refusals (LUBI_SHORT and so on),
                     answer[0] is its place, and the rest is 0.
 
-   WHAT THE CALLER MUST TEST: nothing, and no wrapper needs to. No call asks that a book, a sheet, a table, a count or a place makes sense,
-   or that an area is long enough: each tests what it is given and refuses what it cannot use. What is left to C is what C alone can know:
+   WHAT THE CALLER MUST TEST: nothing, and no wrapper needs to. No call asks that typed rules, a book, a sheet, a table, a count or a place
+   makes sense, or that an area is long enough: each tests what it is given and refuses what it cannot use. What is left to C is what C
+   alone can know:
      - a pointer with a length points to that many elements (it is not NULL, also where the length is 0), and `answer` to four;
      - an area that a call writes overlaps no other area of that call;
      - nothing else writes these areas while the call runs. The library keeps nothing between calls, so several threads may call it.
 
    AREAS. `labels` has one cell a state and `targets` 256, and they are a table together with a count of states. Where a call fills a
    table, labels has at least LUBI_STATES cells and targets LUBI_TARGETS; where a call reads one, as many as its count asks for.
-   A work area has at least LUBI_WORK cells of 64 bits, and a text area at least LUBI_TEXT bytes. No length is too long.
+   A work area has at least LUBI_WORK cells of 64 bits, a text area at least LUBI_TEXT bytes, and an area for a typed book at least
+   LUBI_BOOK bytes. No length is too long.
    What a work area holds before a call does not matter; afterwards it is all 0, but after LUBI_ROOM, which changes no area.
-   Building and comparing keep some 98,000 bytes of their own on the stack besides. */
+   Building and comparing keep some 98,000 bytes of their own on the stack besides. Typing keeps some 6,200 bytes there, for the nodes of a
+   line and for the book, and calls itself at most 33 levels deep, one for a line and one for each parenthesis that is open. */
 #ifndef LUBIRANGUK_H
 #define LUBIRANGUK_H
 
@@ -31,6 +34,7 @@ enum {
     LUBI_ANSWER = 4,      /* numbers of an answer */
     LUBI_RECORD = 3,      /* cells of a word: start, length, rule */
     LUBI_RULES = 32,      /* rules of a book */
+    LUBI_BOOK = 4096,     /* bytes of an area for a typed book: so many hold any */
     LUBI_STATES = 255,    /* states of a table, and cells of its labels */
     LUBI_TARGETS = 65280, /* cells of its targets */
     LUBI_SHEET = 196608,  /* bytes of the longest sheet there is: so many hold any */
@@ -53,7 +57,8 @@ enum {
     LUBI_LOADED = 10,
     LUBI_ROOM = 11,
     LUBI_PAIRS = 12,
-    LUBI_INPUT = 13 /* programs only: no call here gives it */
+    LUBI_INPUT = 13, /* programs only: no call here gives it */
+    LUBI_TYPED = 14
 };
 
 /* whether there is such a rule */
@@ -64,6 +69,15 @@ enum { LUBI_DONE = 0, LUBI_STUCK = 1, LUBI_FULL = 2 };
 
 /* how a comparison ended */
 enum { LUBI_SAME = 0, LUBI_DIFFERS = 1 };
+
+/* Types rules: a text of one rule a line, each its kind, a colon and an expression (docs/RULES.md), becomes a rule book at the front of
+   `out`; the bytes of `out` past the book stay as they were.
+   answer: the number of bytes of the book.
+   Refuses LUBI_ROOM first, where `out` has fewer than LUBI_BOOK bytes, however short the book would be; then LUBI_TYPED, at the first byte
+   that no rightly typed text could have after the bytes before it, or at the end of a text that stops too early; then LUBI_RANGE, at the
+   start of the first line that brings the rules above LUBI_RULES, its kind above 16,383 or the nodes of all rules above 512 (0 where there
+   is no line). On a refusal all of `out` is unchanged. A text may have any length. */
+size_t lubi_type(const uint8_t *text, size_t text_length, uint8_t *out, size_t out_length, size_t answer[LUBI_ANSWER]);
 
 /* Checks a rule book.
    answer: the number of rules, the number of nodes of all rules together.

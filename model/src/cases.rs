@@ -34,7 +34,7 @@ impl File {
         }
     }
 
-    fn put(&self, path: &Path) -> io::Result<()> {
+    pub fn put(&self, path: &Path) -> io::Result<()> {
         match self {
             File::Bytes(bytes) => fs::write(path, bytes),
             File::Missing => Ok(()),

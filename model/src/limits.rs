@@ -41,3 +41,9 @@ pub const BOOK_FILE: usize = 4_096;
 pub const TEXT_FILE: usize = 32_768;
 /// Greatest length of the file words.sheet.
 pub const SHEET_FILE: usize = 65_536;
+/// Greatest length of the file words.rules.
+pub const RULES_FILE: usize = 32_768;
+/// Least length of the area for the book of a typed text.
+pub const TYPED_AREA: usize = 4_096;
+/// Greatest number of parentheses that are open at once in a typed expression.
+pub const OPEN: usize = 32;

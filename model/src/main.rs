@@ -30,6 +30,20 @@ mod starts;
 mod stored;
 mod telling;
 mod term;
+mod typed;
+mod typed_cases;
+mod typed_checks;
+mod typed_fixed;
+mod typed_grammar;
+mod typed_laws;
+mod typed_limits;
+mod typed_meaning;
+mod typed_random;
+mod typed_readings;
+mod typed_sets;
+mod typed_short;
+mod typed_stored;
+mod typed_wrong;
 mod worked;
 
 use std::fs;
@@ -37,8 +51,9 @@ use std::io::{self, Read, Write};
 use std::path::Path;
 use std::process::ExitCode;
 
-const USAGE: &str =
-    "model cut DIR | compare DIR | sheet DIR | cases N SEED OUT | stored DIR | limits | selftest";
+const USAGE: &str = "model cut DIR | compare DIR | sheet DIR | rules DIR | typed AREA
+    | cases N SEED OUT | typed-cases N SEED OUT | stored DIR | typed-stored DIR
+    | limits | selftest | selftest typed";
 
 fn main() -> ExitCode {
     let arguments: Vec<String> = std::env::args().skip(1).collect();
@@ -70,18 +85,34 @@ fn run(words: &[&str]) -> io::Result<bool> {
             Ok(sheet) => fs::write(Path::new(folder).join("words.sheet"), sheet)?,
             Err(refusal) => print!("{}", refusal.line()),
         },
+        ["rules", folder] => match programs::rules(file(folder, "words.rules").as_deref()) {
+            Ok(book) => fs::write(Path::new(folder).join("words.book"), book)?,
+            Err(refusal) => print!("{}", refusal.line()),
+        },
+        ["typed", area] => {
+            let mut text = Vec::new();
+            io::stdin().read_to_end(&mut text)?;
+            println!("{}", typed_stored::answer(&text, number(area)?));
+        }
         ["cases", count, seed, folder] => {
-            let (Ok(count), Ok(seed)) = (count.parse(), seed.parse()) else {
-                return Err(io::Error::other(USAGE));
-            };
-            cases::put_cases(count, seed, Path::new(folder))?;
+            cases::put_cases(number(count)?, number(seed)?, Path::new(folder))?;
+        }
+        ["typed-cases", count, seed, folder] => {
+            typed_cases::put_typed_cases(number(count)?, number(seed)?, Path::new(folder))?;
         }
         ["stored", folder] => stored::put_stored(Path::new(folder))?,
+        ["typed-stored", folder] => typed_stored::put_typed_stored(Path::new(folder))?,
         ["limits"] => capchecks::print_limits(),
         ["selftest"] => return Ok(selftest::run()),
+        ["selftest", "typed"] => return Ok(selftest::run_typed()),
         _ => return Err(io::Error::other(USAGE)),
     }
     Ok(true)
+}
+
+/// A number of the command line.
+fn number<T: std::str::FromStr>(word: &str) -> io::Result<T> {
+    word.parse().map_err(|_| io::Error::other(USAGE))
 }
 
 /// A file's bytes, if it can be read.

@@ -3,10 +3,11 @@
 
 use crate::book::{self, Book};
 use crate::build::{build, compare};
-use crate::cut::{cut_on, End};
-use crate::limits::{BOOK_FILE, SHEET_FILE, TEXT_FILE};
+use crate::cut::{cut_on, End, Word};
+use crate::limits::{BOOK_FILE, RULES_FILE, SHEET_FILE, TEXT_FILE, TYPED_AREA};
 use crate::refusal::{refuse, Fault, Refusal};
 use crate::sheet::{self, Table};
+use crate::typed;
 
 /// Records in the list with which `cut` works; the output does not depend on it.
 const ROOM: usize = 100;
@@ -31,9 +32,13 @@ fn try_cut(book: Option<&[u8]>, text: Option<&[u8]>) -> Result<String, Refusal> 
     Ok(words(&book, &build(&book)?, text))
 }
 
-/// The lines for all words and the last line.
 fn words(book: &Book, table: &Table, text: &[u8]) -> String {
     let (words, end) = cut_on(table, text, ROOM);
+    listed(book, &words, end)
+}
+
+/// The lines for all words and the last line.
+pub fn listed(book: &Book, words: &[Word], end: End) -> String {
     let mut out = String::new();
     for word in words {
         let kind = book.rules[word.rule].kind;
@@ -64,6 +69,11 @@ fn try_comparison(book: Option<&[u8]>, sheet: Option<&[u8]>) -> Result<String, R
 pub fn sheet(book: Option<&[u8]>) -> Result<Vec<u8>, Refusal> {
     let book = book::read(input(book, BOOK_FILE)?)?;
     Ok(sheet::write(&build(&book)?))
+}
+
+/// The book that `rules` writes, or the refusal that it prints. Its area is long enough.
+pub fn rules(text: Option<&[u8]>) -> Result<Vec<u8>, Refusal> {
+    Ok(typed::book(input(text, RULES_FILE)?, TYPED_AREA)?.write())
 }
 
 /// A refusal is the only line.

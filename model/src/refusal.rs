@@ -14,8 +14,10 @@ pub enum Fault {
     States = 8,
     Runs = 9,
     Loaded = 10,
+    Room = 11,
     Pairs = 12,
     Input = 13,
+    Typed = 14,
 }
 
 /// A fault and its place: a byte offset, or a state, or a pair.

@@ -1,5 +1,6 @@
 //! The model's test of itself, first part: numbers, books and the sample book with its
-//! worked lines; then come `sheetchecks`, `capchecks`, `crosschecks` and `comparisons`.
+//! worked lines; then come `sheetchecks`, `capchecks`, `crosschecks`, `comparisons` and
+//! `typed_checks`.
 
 use crate::book;
 use crate::brute;
@@ -19,6 +20,7 @@ use crate::refusal::{Fault, Refusal};
 use crate::sheet;
 use crate::sheetchecks;
 use crate::sheets;
+use crate::typed_checks;
 use crate::worked::{sample_book, sample_table, OUTPUT, SAMPLE, TEXT};
 
 /// Counts checks and names those that fail.
@@ -39,6 +41,12 @@ impl Checks {
             }
         }
     }
+
+    /// Says how many there were; answers whether none failed.
+    fn end(&self) -> bool {
+        println!("{} passed, {} failed", self.passed, self.failed);
+        self.failed == 0
+    }
 }
 
 /// Runs every check; answers whether none failed.
@@ -52,8 +60,15 @@ pub fn run() -> bool {
     capchecks::run(&mut checks);
     crosschecks::run(&mut checks);
     comparisons::run(&mut checks);
-    println!("{} passed, {} failed", checks.passed, checks.failed);
-    checks.failed == 0
+    typed_checks::run(&mut checks);
+    checks.end()
+}
+
+/// Runs the checks of typed texts alone.
+pub fn run_typed() -> bool {
+    let mut checks = Checks::default();
+    typed_checks::run(&mut checks);
+    checks.end()
 }
 
 /// A number by trying its shortest form: where it ends is where the first low byte is.

@@ -20,6 +20,7 @@ use Rattle.cutting.specs.Promises.{CutsInto, CutsWords}
 use Rattle.building.specs.Fill.{Builds}
 use Rattle.comparing.specs.declared.Compared.{Compared}
 use Rattle.comparing.specs.Promises.{Compares}
+use Rattle.typing.specs.Promises.{Types}
 use Rattle.answers.specs.Told.{taken-one, counted-one, wrote-one, checked-one, told-one, ended-one, compared-one}
 
 pub one-number : (s : List ℕ) (at : ℕ) (x y : Taken) → taken x ≡ readNumber s at → taken y ≡ readNumber s at → x ≡ y
@@ -62,3 +63,6 @@ pub one-comparison : (file : List ℕ) (n : ℕ) (l t a s a₁ s₁ a₂ s₂ : 
     → Compares file n l t a s a₂ s₂ y → (x ≡ y) × (a₁ ≡ a₂) × (s₁ ≡ s₂)
 one-comparison file n l t a s a₁ s₁ a₂ s₂ x y p q =
     (compared-one x y (p .answer ∙ sym (q .answer)), p .text ∙ sym (q .text), p .work-after ∙ sym (q .work-after))
+
+pub one-typing : (text out o₁ o₂ : List ℕ) (x y : Written) → Types text out x o₁ → Types text out y o₂ → (x ≡ y) × (o₁ ≡ o₂)
+one-typing text out o₁ o₂ x y p q = (wrote-one x y (p .answer ∙ sym (q .answer)), p .output ∙ sym (q .output))

@@ -3,7 +3,7 @@
 use Prim.Native.Nat.{ℕ}
 use mathlib.Core.Path.{_≡_, refl, ap}
 use mathlib.Core.List.{List}
-use Rattle.number.specs.declared.Refusal.the-variants.{Short, Number, Range, Stack, Tail, Long, Pool, States, Runs, Loaded, Room, Pairs, Input}
+use Rattle.number.specs.declared.Refusal.the-variants.{Short, Number, Range, Stack, Tail, Long, Pool, States, Runs, Loaded, Room, Pairs, Input, Typed}
 use Rattle.number.specs.Refused.{Outcome}
 use Rattle.number.specs.Refused.Outcome.{gives, refuses}
 use Rattle.book.specs.Calls.{Size, Told as KindTold}
@@ -33,6 +33,7 @@ module _ {A : Type 0} (told : A → List ℕ) (read : List ℕ → A) (back : (x
   packed-back (refuses Room) = refl
   packed-back (refuses (Pairs at)) = refl
   packed-back (refuses Input) = refl
+  packed-back (refuses (Typed at)) = refl
 
 ending-back : (e : Ending) (n : ℕ) → reportIn (toldReport (record { ending = e; count = n })) ≡ record { ending = e; count = n }
 ending-back Done n = refl

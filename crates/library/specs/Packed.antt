@@ -30,7 +30,7 @@ abbrev pub packed : {A : Type 0} → (A → List ℕ) → Outcome A → Packed
 packed told (gives x) = left 0 (told x)
 packed told (refuses r) = left (number r) (four (place r) 0 0 0)
 
--- a count alone: the states of a table, the bytes of a sheet
+-- a count alone: the states of a table, the bytes of a sheet or of a book
 abbrev pub toldCount : ℕ → List ℕ
 toldCount n = four n 0 0 0
 

@@ -6,7 +6,7 @@ use mathlib.Core.List.{List}
 use lib.Dec.{eqb}
 use lib.ListN.{getD}
 use Rattle.number.specs.declared.Refusal.{Refusal}
-use Rattle.number.specs.declared.Refusal.the-variants.{Short, Number, Range, Stack, Tail, Long, Pool, States, Runs, Loaded, Room, Pairs, Input}
+use Rattle.number.specs.declared.Refusal.the-variants.{Short, Number, Range, Stack, Tail, Long, Pool, States, Runs, Loaded, Room, Pairs, Input, Typed}
 use Rattle.number.specs.Refused.{Outcome}
 use Rattle.number.specs.Refused.Outcome.{gives, refuses}
 use Rattle.book.specs.Calls.{Size, Told as KindTold}
@@ -32,7 +32,8 @@ refusalOf n at =
     (cond (eqb n 9) (Runs at)
     (cond (eqb n 10) Loaded
     (cond (eqb n 11) Room
-    (cond (eqb n 12) (Pairs at) Input)))))))))))
+    (cond (eqb n 12) (Pairs at)
+    (cond (eqb n 13) Input (Typed at)))))))))))))
 
 -- the cells by their numbers
 abbrev pub cell : List ℕ → ℕ → ℕ

@@ -9,6 +9,7 @@ ghost use Rattle.cutting.specs.Calls.{ended};
 ghost use Rattle.cutting.specs.Flat.{cutCellsOf};
 ghost use Rattle.building.specs.Calls.{buildOf};
 ghost use Rattle.comparing.specs.Calls.{compared, compareOf};
+ghost use Rattle.typed.specs.Calls.{typeOf};
 ghost use Rattle.library.specs.Packed.{left, four, packed, tested, toldCount, toldSize, toldKind, toldReport, toldCompared};
 use book::Checked;
 use book::RuleKind;
@@ -206,6 +207,16 @@ pub extern "C" fn lubi_write_sheet<'a>(
     ensures { λ _. ⌜ now (out .exit) ≡ writeOf count (now (labels .entry)) (now (targets .entry)) (now (out .entry)) .out ⌝ }
 {
     let found = table::write_sheet(count, labels, targets, out);
+    tell_bytes(answer, found)
+}
+
+// A text of typed rules becomes a rule book.
+#[no_mangle]
+pub extern "C" fn lubi_type(text: &[u8], out: &mut [u8], answer: &mut [usize; CELLS]) -> usize
+    ensures { λ code. ⌜ left code (now (answer .exit)) ≡ packed toldCount (typeOf (now (text .entry)) (now (out .entry)) .answer) ⌝ }
+    ensures { λ _. ⌜ now (out .exit) ≡ typeOf (now (text .entry)) (now (out .entry)) .out ⌝ }
+{
+    let found = typing::type_rules(text, out);
     tell_bytes(answer, found)
 }
 

@@ -33,7 +33,7 @@ fn digit(d: usize) -> u8
     }
 }
 
-fn put_byte(b: u8, out: &mut [u8], at: usize) -> usize
+pub fn put_byte(b: u8, out: &mut [u8], at: usize) -> usize
     requires { ⌜ at < length (now out) ⌝ }
     ensures { λ next. ⌜ Writes (b ∷ []) (now (out .entry)) (now (out .exit)) at next ⌝ }
 {

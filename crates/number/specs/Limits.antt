@@ -1,4 +1,4 @@
--- Every number that document 01 fixes, or a request of document 02 after it, once: a definition or a promise that needs one names it here.
+-- Every number that document 01 fixes, or a request of document 02 after it, or that we chose, where the paper is silent (as rulesFile), once: a definition or a promise that needs one names it here.
 -- src/limits.rt holds the same numbers for the code; a proof that crosses from one to the other fails if they differ.
 use Prim.Native.Nat.{ℕ, _*_}
 
@@ -76,7 +76,14 @@ workCells = 65536
 abbrev pub scratch : ℕ
 scratch = 34816
 
--- programs: bytes of a rule book's file, of standard input and of a sheet's file
+-- rules typed as text: parentheses that may be open, and the bytes that a call asks for its book
+abbrev pub deep : ℕ
+deep = 32
+
+abbrev pub typedArea : ℕ
+typedArea = 4096
+
+-- programs: bytes of a rule book's file, of standard input, of a sheet's file and of typed rules
 abbrev pub bookFile : ℕ
 bookFile = 4096
 
@@ -85,3 +92,6 @@ textFile = 32768
 
 abbrev pub sheetFile : ℕ
 sheetFile = 65536
+
+abbrev pub rulesFile : ℕ
+rulesFile = 32768

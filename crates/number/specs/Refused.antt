@@ -1,8 +1,8 @@
--- What each refusal means on paper: its number and its place, as the table of numbered refusals has them.
+-- What each refusal means on paper: its number and its place, as the table of numbered refusals has them; 14 comes from document 02.
 -- Also the answer of a reader: what it got and the place after it, or why it refused.
 use Prim.Native.Nat.{ℕ}
 use Rattle.number.specs.declared.Refusal.{Refusal}
-use Rattle.number.specs.declared.Refusal.the-variants.{Short, Number, Range, Stack, Tail, Long, Pool, States, Runs, Loaded, Room, Pairs, Input}
+use Rattle.number.specs.declared.Refusal.the-variants.{Short, Number, Range, Stack, Tail, Long, Pool, States, Runs, Loaded, Room, Pairs, Input, Typed}
 
 -- the number in the first column
 abbrev pub number : Refusal → ℕ
@@ -19,6 +19,7 @@ number Loaded = 10
 number Room = 11
 number (Pairs at) = 12
 number Input = 13
+number (Typed at) = 14
 
 -- the place in the last column
 abbrev pub place : Refusal → ℕ
@@ -35,6 +36,7 @@ place Loaded = 0
 place Room = 0
 place (Pairs at) = at
 place Input = 0
+place (Typed at) = at
 
 -- what reading at a place answers: something and the place after it, or a refusal
 pub data Answer (A : Type 0) : Type 0 where

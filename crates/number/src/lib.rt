@@ -29,6 +29,7 @@ pub enum Refusal {
     Room,
     Pairs(usize),
     Input,
+    Typed(usize),
 }
 
 // The answer of a reader of one number: its value and the place after it, or the refusal.
@@ -55,6 +56,7 @@ pub fn refusal_number(r: Refusal) -> usize
         Refusal::Room => 11,
         Refusal::Pairs(_) => 12,
         Refusal::Input => 13,
+        Refusal::Typed(_) => 14,
     }
 }
 
@@ -76,6 +78,7 @@ pub fn refusal_place(r: Refusal) -> usize
         Refusal::Room => 0,
         Refusal::Pairs(at) => at,
         Refusal::Input => 0,
+        Refusal::Typed(at) => at,
     }
 }
 

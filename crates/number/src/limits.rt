@@ -1,4 +1,4 @@
-// Every number that document 01 fixes, or a request of document 02 after it, once, for the code; specs/Limits.antt holds the same for the definitions.
+// Every number that document 01 fixes, or a request of document 02 after it, or that we chose, where the paper is silent (as RULES_FILE), once, for the code; specs/Limits.antt holds the same for the definitions.
 // A contract is stated with those and met with these, so the two cannot drift apart where a proof uses them.
 
 // Numbers in files: what one group of seven bits can hold, and two, and three, which is the most there are.
@@ -46,12 +46,19 @@ pub const PAIRS: usize = 512;
 
 pub const SHOWN_TEXT: usize = 512;
 
-// Programs: bytes of a rule book's file, of standard input and of a sheet's file.
+// Rules typed as text: parentheses that may be open, and the bytes that a call asks for its book.
+pub const DEEP: usize = 32;
+
+pub const TYPED_AREA: usize = 4096;
+
+// Programs: bytes of a rule book's file, of standard input, of a sheet's file and of typed rules.
 pub const BOOK_FILE: usize = 4096;
 
 pub const TEXT_FILE: usize = 32768;
 
 pub const SHEET_FILE: usize = 65536;
+
+pub const RULES_FILE: usize = 32768;
 
 // Lent work areas: the most cells that a call may ask for, so that a cell's number fits sixteen bits; and the scratch for making one term.
 pub const WORK_CELLS: usize = 65536;

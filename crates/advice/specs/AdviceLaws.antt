@@ -1,0 +1,149 @@
+-- The whole text for a refusal: its parts in the order in which the code puts them, and the cases of adviceOf.
+-- Line and start are those that the code found for the bytes before the place.
+use Prim.Native.Nat.{ℕ, _+_, _-_, _≤_, _<_}
+use native.Mathlib.Omega.{arith}
+use mathlib.Core.Path.{_≡_, refl, sym, ap, _∙_}
+use mathlib.Core.List.{List, [], _++_}
+use lib.Dec.{eqb}
+use lib.ListN.{length, take, drop}
+use borrow.Author.Tests.{eq-eqb, ne-eqb, lt-ltb, le-ltb}
+use Rattle.number.specs.declared.Refusal.{Refusal}
+use Rattle.number.specs.declared.Refusal.the-variants.{Range, Typed, Input}
+use Rattle.number.specs.Limits.{rulesFile}
+use Rattle.number.specs.Lists.{Writes, writes-none}
+use Rattle.meaning.specs.Re.{Text}
+use Rattle.typed.specs.Quoted.{quoted}
+use Rattle.advice.specs.Advice.{newlines, lineAt, lastStart, startAt, shownLine, markLine, couldStand, testedLine}
+use Rattle.advice.specs.Advice.{lineWords, columnWords, faultWords, tooMuch, typedAdvice, rangeAdvice, noRule, unread, adviceOf, adviceRoom}
+use Rattle.advice.specs.Promises.{SpotOf}
+use Rattle.advice.specs.Left.{Left, left-all, left-as, left-room, left-step}
+use Rattle.advice.specs.WriteLaws.{writes-as}
+use Rattle.advice.specs.RoomLaws.{advice-room}
+
+-- the code looks at the part of the text from 0 to p
+whole-part : (text : Text) (p : ℕ) → take (p - 0) (drop 0 text) ≡ take p text
+whole-part text p = ap (λ n. take n text) none
+  where
+    none : p - 0 ≡ p
+    none = omega arith
+
+line-found : (text : Text) (p line start : ℕ) → SpotOf (take (p - 0) (drop 0 text)) line start → lineAt text p ≡ line
+line-found text p line start s = ap (λ w. newlines w + 1) (sym (whole-part text p)) ∙ sym (s .lines)
+
+start-found : (text : Text) (p line start : ℕ) → SpotOf (take (p - 0) (drop 0 text)) line start → startAt text p ≡ start
+start-found text p line start s = ap (lastStart 0 0) (sym (whole-part text p)) ∙ sym (s .starts)
+
+-- what is left of the advice on a wrong byte from each of its parts on
+unfoldable pub markOn : Text → ℕ → ℕ → List ℕ
+markOn text p start = markLine (p - start) ++ testedLine (couldStand (take p text))
+
+unfoldable pub shownOn : Text → ℕ → ℕ → List ℕ
+shownOn text p start = shownLine (drop start text) ++ markOn text p start
+
+unfoldable pub faultOn : Text → ℕ → ℕ → List ℕ
+faultOn text p start = faultWords (eqb p (length text)) ++ shownOn text p start
+
+unfoldable pub columnOn : Text → ℕ → ℕ → List ℕ
+columnOn text p start = columnWords (p - start + 1) ++ faultOn text p start
+
+unfoldable pub lineOn : Text → ℕ → ℕ → ℕ → List ℕ
+lineOn text p line start = lineWords line ++ columnOn text p start
+
+pub typed-all : (text : Text) (p line start : ℕ) (s : List ℕ) (at : ℕ) → SpotOf (take (p - 0) (drop 0 text)) line start
+    → at + length (typedAdvice text p) ≤ length s → Left (typedAdvice text p) (lineOn text p line start) s s at at
+unfolding typedAdvice lineOn columnOn faultOn shownOn markOn
+typed-all text p line start s at f h =
+    left-as
+    (ap (λ l. lineOn text p l (startAt text p)) (line-found text p line start f) ∙ ap (lineOn text p line) (start-found text p line start f))
+    (left-all (typedAdvice text p) s at h)
+
+-- each part has room, and is followed by the next
+module _ (text : Text) (p start : ℕ) {whole s t : List ℕ} {at₀ at : ℕ} where
+  pub line-room : (line : ℕ) → Left whole (lineOn text p line start) s t at₀ at → at + length (lineWords line) ≤ length t
+  unfolding lineOn
+  line-room line l = left-room (lineWords line) (columnOn text p start) l
+
+  pub line-on : (line : ℕ) → {u : List ℕ} {mid : ℕ} → Left whole (lineOn text p line start) s t at₀ at → Writes (lineWords line) t u at mid
+      → Left whole (columnOn text p start) s u at₀ mid
+  unfolding lineOn
+  line-on line l a = left-step (lineWords line) (columnOn text p start) l a
+
+  pub column-room : Left whole (columnOn text p start) s t at₀ at → at + length (columnWords (p - start + 1)) ≤ length t
+  unfolding columnOn
+  column-room l = left-room (columnWords (p - start + 1)) (faultOn text p start) l
+
+  pub column-on : {u : List ℕ} {mid : ℕ} → Left whole (columnOn text p start) s t at₀ at → Writes (columnWords (p - start + 1)) t u at mid
+      → Left whole (faultOn text p start) s u at₀ mid
+  unfolding columnOn
+  column-on l a = left-step (columnWords (p - start + 1)) (faultOn text p start) l a
+
+  pub fault-room : Left whole (faultOn text p start) s t at₀ at → at + length (faultWords (eqb p (length text))) ≤ length t
+  unfolding faultOn
+  fault-room l = left-room (faultWords (eqb p (length text))) (shownOn text p start) l
+
+  pub fault-on : {u : List ℕ} {mid : ℕ} → Left whole (faultOn text p start) s t at₀ at → Writes (faultWords (eqb p (length text))) t u at mid
+      → Left whole (shownOn text p start) s u at₀ mid
+  unfolding faultOn
+  fault-on l a = left-step (faultWords (eqb p (length text))) (shownOn text p start) l a
+
+  pub shown-room : Left whole (shownOn text p start) s t at₀ at → at + length (shownLine (drop start text)) ≤ length t
+  unfolding shownOn
+  shown-room l = left-room (shownLine (drop start text)) (markOn text p start) l
+
+  pub shown-on : {u : List ℕ} {mid : ℕ} → Left whole (shownOn text p start) s t at₀ at → Writes (shownLine (drop start text)) t u at mid
+      → Left whole (markOn text p start) s u at₀ mid
+  unfolding shownOn
+  shown-on l a = left-step (shownLine (drop start text)) (markOn text p start) l a
+
+  pub mark-room : Left whole (markOn text p start) s t at₀ at → at + length (markLine (p - start)) ≤ length t
+  unfolding markOn
+  mark-room l = left-room (markLine (p - start)) (testedLine (couldStand (take p text))) l
+
+  pub mark-on : {u : List ℕ} {mid : ℕ} → Left whole (markOn text p start) s t at₀ at → Writes (markLine (p - start)) t u at mid
+      → Left whole (testedLine (couldStand (take p text))) s u at₀ mid
+  unfolding markOn
+  mark-on l a = left-step (markLine (p - start)) (testedLine (couldStand (take p text))) l a
+
+pub range-all : (text : Text) (p line start : ℕ) (s : List ℕ) (at : ℕ) → SpotOf (take (p - 0) (drop 0 text)) line start
+    → at + length (rangeAdvice text p) ≤ length s
+    → Left (rangeAdvice text p) (lineWords line ++ (tooMuch ++ shownLine (drop start text))) s s at at
+unfolding rangeAdvice
+range-all text p line start s at f h =
+    left-as
+    (ap (λ l. lineWords l ++ (tooMuch ++ shownLine (drop (startAt text p) text))) (line-found text p line start f) ∙
+    ap (λ k. lineWords line ++ (tooMuch ++ shownLine (drop k text))) (start-found text p line start f))
+    (left-all (rangeAdvice text p) s at h)
+
+-- ---- the cases
+
+pub typed-outside : (text : Text) (p : ℕ) → length text < p → [] ≡ adviceOf text (Typed p)
+unfolding adviceOf
+typed-outside text p h = sym (rw (lt-ltb (length text) p h) refl)
+
+pub typed-inside : (text : Text) (p : ℕ) → p ≤ length text → typedAdvice text p ≡ adviceOf text (Typed p)
+unfolding adviceOf
+typed-inside text p h = sym (rw (le-ltb (length text) p h) refl)
+
+pub range-none : {w : List ℕ} (text : Text) (p : ℕ) → length text ≡ 0 → w ≡ quoted "words.rules has no rule.\n" → w ≡ adviceOf text (Range p)
+unfolding adviceOf noRule
+range-none text p h e = e ∙ sym (rw (eq-eqb (length text) 0 h) refl)
+
+pub range-outside : (text : Text) (p : ℕ) → (length text ≡ 0 → ⊥) → length text < p → [] ≡ adviceOf text (Range p)
+unfolding adviceOf
+range-outside text p n h = sym (rw (ne-eqb (length text) 0 n, lt-ltb (length text) p h) refl)
+
+pub range-inside : (text : Text) (p : ℕ) → (length text ≡ 0 → ⊥) → p ≤ length text → rangeAdvice text p ≡ adviceOf text (Range p)
+unfolding adviceOf
+range-inside text p n h = sym (rw (ne-eqb (length text) 0 n, le-ltb (length text) p h) refl)
+
+pub input-all : (text : Text) → unread ≡ adviceOf text Input
+unfolding adviceOf
+input-all text = refl
+
+pub nothing-told : {w : List ℕ} (s : List ℕ) → w ≡ [] → Writes w s s 0 0
+nothing-told s e = writes-as (sym e) (writes-none s 0)
+
+-- the advice fits, and so does its end
+pub advised : (text : Text) (r : Refusal) {s t : List ℕ} {end : ℕ} → length text ≤ rulesFile → Writes (adviceOf text r) s t 0 end
+    → Writes (adviceOf text r) s t 0 end × (end ≤ adviceRoom)
+advised text r h a = (a, omega (arith, a .place, advice-room text r h))

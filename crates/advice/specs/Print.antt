@@ -1,0 +1,58 @@
+-- The book that the program rules makes of the bytes of words.rules, or the refusal that it tells: the promise of rules_book cites this.
+-- A file that is missing or over its size is handed on as more bytes than its limit, and is refused before any byte is looked at.
+use Prim.Native.Nat.{ℕ, _≤_, _<_}
+use native.Mathlib.Omega.{arith}
+use mathlib.Core.Path.{_≡_, refl, sym, ap, _∙_}
+use mathlib.Core.Bool.{cond}
+use mathlib.Core.List.{List}
+use lib.Dec.{ltb}
+use lib.ListN.{length}
+use borrow.Author.Tests.{lt-ltb, le-ltb}
+use Rattle.number.specs.declared.Refusal.the-variants.{Input}
+use Rattle.number.specs.Limits.{rulesFile, typedArea}
+use Rattle.number.specs.Refused.{Outcome}
+use Rattle.number.specs.Refused.Outcome.{gives, refuses}
+use Rattle.table.specs.declared.Written.{Written}
+use Rattle.table.specs.declared.Written.the-variants.{Bytes, Unwritten}
+use Rattle.table.specs.Calls.{wrote}
+use Rattle.typed.specs.Calls.{bookBytes, putBook, typeOf}
+use Rattle.typed.specs.Main.{the-length}
+use Rattle.typing.specs.Promises.{Types}
+
+unfoldable pub rulesBytes : List ℕ → Outcome (List ℕ)
+rulesBytes text = cond (ltb rulesFile (length text)) (refuses Input) (bookBytes text)
+
+-- rules_book: its answer, the output as it was and is; and a book that was given lies in an area of full size
+pub record MakesBook (text out : List ℕ) (r : Written) (out′ : List ℕ) : Type 0 where
+  pub answer : wrote r ≡ putBook out (rulesBytes text) .answer
+  pub output : out′ ≡ putBook out (rulesBytes text) .out
+  pub inside : (n : ℕ) → r ≡ Bytes n → n ≤ typedArea
+
+pub too-long : (text out : List ℕ) → rulesFile < length text → MakesBook text out (Unwritten Input) out
+unfolding rulesBytes
+too-long text out h =
+    let z = lt-ltb rulesFile (length text) h in
+    record { answer = rw z refl; output = rw z refl; inside = λ n e. absurd (let y : _≡_ {A = ℕ} 0 1 = cc in omega arith) }
+
+-- what is given is a book's length
+short-book : (out : List ℕ) (n : ℕ) (x : Outcome (List ℕ)) → ((bytes : List ℕ) → x ≡ gives bytes → length bytes < typedArea)
+    → gives n ≡ putBook out x .answer → n ≤ typedArea
+short-book out n (gives bytes) f e = let z : n ≡ length bytes = cc in omega (arith, f bytes refl)
+short-book out n (refuses r) f e = absurd (let y : _≡_ {A = ℕ} 0 1 = cc in omega arith)
+
+module _ (text out : List ℕ) (r : Written) (out′ : List ℕ) (room : typedArea ≤ length out) (fits : length text ≤ rulesFile) (a : Types text out r out′) where
+  told : wrote r ≡ putBook out (bookBytes text) .answer
+  told = let z = le-ltb (length out) typedArea room in rw z at (a .answer)
+
+  left : out′ ≡ putBook out (bookBytes text) .out
+  left = let z = le-ltb (length out) typedArea room in rw z at (a .output)
+
+  pub makes-book : MakesBook text out r out′
+  unfolding rulesBytes
+  makes-book =
+      let z = le-ltb rulesFile (length text) fits in
+      record {
+        answer = rw z told;
+        output = rw z left;
+        inside = λ n e. short-book out n (bookBytes text) (λ bytes h. the-length text bytes h .1) (sym (ap wrote e) ∙ told);
+      }

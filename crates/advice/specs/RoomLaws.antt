@@ -1,0 +1,191 @@
+-- How long advice gets: it fits into adviceRoom for every text that a file of rules may be.
+-- A line has at most as many bytes as the text, the mark as many spaces; a run takes sixteen bytes at most, and there is one for each byte at most.
+use Prim.Native.Nat.{ℕ, zero, suc, _+_, _*_, _-_, _^_, _≤_, _<_}
+use native.Mathlib.Omega.{arith}
+use mathlib.Core.Path.{_≡_, refl}
+use mathlib.Core.Bool.{Bool, true, false, cond, _&&_}
+use mathlib.Core.List.{List, [], _∷_, _++_}
+use lib.Dec.{eqb, ltb}
+use lib.ListN.{length, take, drop, replicate, length-append, length-drop, length-replicate}
+use lib.Seq.{length-take-le}
+use borrow.Author.Tests.{ltb-false}
+use Rattle.number.specs.declared.Refusal.{Refusal}
+use Rattle.number.specs.declared.Refusal.the-variants.{Short, Number, Range, Stack, Tail, Long, Pool, States, Runs, Loaded, Room, Pairs, Input, Typed}
+use Rattle.number.specs.Limits.{bytes, rulesFile}
+use Rattle.number.specs.Branch.{by-cond}
+use Rattle.meaning.specs.Re.{Text}
+use Rattle.lines.specs.Digits.{decimal}
+use Rattle.lines.specs.DigitLaws.{decimal-most}
+use Rattle.typed.specs.Quoted.{quoted}
+use Rattle.advice.specs.Advice.{newline, space, newlines, lineAt, startAt, printed, shown, shownLine, markLine, couldStand}
+use Rattle.advice.specs.Advice.{kept, Run, neighbours, joined, runs, byteName, runName, runNames, testedLine}
+use Rattle.advice.specs.Advice.{lineWords, columnWords, faultWords, tooMuch, typedAdvice, rangeAdvice, noRule, unread, adviceOf, adviceRoom}
+
+-- ---- lines
+
+newlines-most : (text : Text) → newlines text ≤ length text
+unfolding newlines
+newlines-most [] = omega arith
+newlines-most (c ∷ text) =
+    by-cond (λ n. n + newlines text ≤ suc (length text)) (eqb c newline)
+    (λ e. omega (arith, newlines-most text)) (λ e. omega (arith, newlines-most text))
+
+line-most : (text : Text) (p : ℕ) → p ≤ length text → length text ≤ rulesFile → lineAt text p ≤ rulesFile + 1
+line-most text p h g = omega (arith, newlines-most (take p text), length-take-le p text h)
+
+shown-most : (text : Text) → length (shown text) ≤ length text
+unfolding shown
+shown-most [] = omega arith
+shown-most (c ∷ text) = by-test (eqb c newline) refl (shown-most text)
+  where
+    by-test : (b : Bool) → eqb c newline ≡ b → length (shown text) ≤ length text → length (shown (c ∷ text)) ≤ suc (length text)
+    by-test true e ih = rw (e, shown) (omega arith)
+    by-test false e ih = rw (e, shown) (omega arith)
+
+shown-line-most : (text : Text) (k : ℕ) → length (shownLine (drop k text)) ≤ length text + 1
+shown-line-most text k =
+    omega (arith, length-append (shown (drop k text)) (newline ∷ []), shown-most (drop k text), length-drop k text)
+
+mark-most : (n : ℕ) → length (markLine n) ≡ n + 2
+unfolding markLine
+mark-most n = omega (arith, length-append (replicate n space) (94 ∷ newline ∷ []), length-replicate n space)
+
+-- ---- runs
+
+abbrev Named : List ℕ → Type 0
+Named w = length w ≤ 7
+
+name-most : (c : ℕ) → length (byteName c) ≤ 7
+unfolding byteName quoted
+name-most c =
+    by-cond Named (eqb c space) {x = quoted "space"} {y = cond (eqb c newline) (quoted "newline") (printed c ∷ [])} (λ e. omega arith)
+    (λ e. by-cond Named (eqb c newline) {x = quoted "newline"} {y = printed c ∷ []} (λ f. omega arith) (λ f. omega arith))
+
+tail-most : (lo hi : ℕ) → length (cond (eqb lo hi) [] (45 ∷ byteName hi)) ≤ 8
+tail-most lo hi = by-cond (λ w. length w ≤ 8) (eqb lo hi) {x = []} {y = 45 ∷ byteName hi} (λ e. omega arith) (λ e. omega (arith, name-most hi))
+
+run-most : (r : Run) → length (runName r) ≤ 15
+unfolding runName
+run-most r =
+    omega (arith, length-append (byteName (r .first)) (cond (eqb (r .first) (r .last)) [] (45 ∷ byteName (r .last))), name-most (r .first), tail-most (r .first) (r .last))
+
+names-most : (rs : List Run) → length (runNames rs) ≤ 16 * length rs
+unfolding runNames
+names-most [] = omega arith
+names-most (r ∷ rs) = omega (arith, length-append (space ∷ runName r) (runNames rs), run-most r, names-most rs)
+
+joined-most : (c : ℕ) (rs : List Run) → length (joined c rs) ≤ suc (length rs)
+unfolding joined
+joined-most c [] = omega arith
+joined-most c (r ∷ rs) =
+    by-cond (λ w. length w ≤ suc (suc (length rs))) (neighbours c && eqb (r .first) (c + 1))
+    {x = record { first = c; last = r .last } ∷ rs} {y = record { first = c; last = c } ∷ r ∷ rs} (λ e. omega arith) (λ e. omega arith)
+
+runs-most : (cs : List ℕ) → length (runs cs) ≤ length cs
+unfolding runs
+runs-most [] = omega arith
+runs-most (c ∷ cs) = omega (arith, joined-most c (runs cs), runs-most cs)
+
+kept-most : (test : ℕ → Bool) (n c : ℕ) → length (kept test n c) ≤ n
+unfolding kept
+kept-most test zero c = omega arith
+kept-most test (suc n) c = by-test (test c) refl (kept-most test n (c + 1))
+  where
+    by-test : (b : Bool) → test c ≡ b → length (kept test n (c + 1)) ≤ n → length (kept test (suc n) c) ≤ suc n
+    by-test true e ih = rw (e, kept) (omega arith)
+    by-test false e ih = rw (e, kept) (omega arith)
+
+tested-most : (test : ℕ → Bool) → length (testedLine test) ≤ 16 * bytes + 18
+unfolding testedLine quoted
+tested-most test =
+    omega (
+      arith,
+      length-append (quoted "here could stand:") (runNames (runs (kept test bytes 0)) ++ (newline ∷ [])),
+      length-append (runNames (runs (kept test bytes 0))) (newline ∷ []),
+      names-most (runs (kept test bytes 0)),
+      runs-most (kept test bytes 0),
+      kept-most test bytes 0,
+    )
+
+-- ---- sentences
+
+line-words-most : (line : ℕ) → line < 10 ^ 6 → length (lineWords line) ≤ 24
+unfolding lineWords quoted
+line-words-most line h = omega (arith, length-append (quoted "words.rules, line ") (decimal line), decimal-most 5 line h)
+
+column-words-most : (column : ℕ) → column < 10 ^ 6 → length (columnWords column) ≤ 15
+unfolding columnWords quoted
+column-words-most column h = omega (arith, length-append (quoted ", column ") (decimal column), decimal-most 5 column h)
+
+fault-most : (b : Bool) → length (faultWords b) ≤ 45
+unfolding faultWords quoted
+fault-most true = omega arith
+fault-most false = omega arith
+
+too-much-most : length tooMuch ≤ 120
+unfolding tooMuch quoted
+too-much-most = omega arith
+
+-- ---- the whole
+
+pub typed-room : (text : Text) (p : ℕ) → p ≤ length text → length text ≤ rulesFile → length (typedAdvice text p) ≤ adviceRoom
+unfolding typedAdvice
+typed-room text p h g =
+    let could : List ℕ = testedLine (couldStand (take p text)) in
+    let mark : List ℕ = markLine (p - startAt text p) in
+    let line : List ℕ = shownLine (drop (startAt text p) text) in
+    let fault : List ℕ = faultWords (eqb p (length text)) in
+    let column : List ℕ = columnWords (p - startAt text p + 1) in
+    omega (
+      arith,
+      length-append (lineWords (lineAt text p)) (column ++ (fault ++ (line ++ (mark ++ could)))),
+      length-append column (fault ++ (line ++ (mark ++ could))),
+      length-append fault (line ++ (mark ++ could)),
+      length-append line (mark ++ could),
+      length-append mark could,
+      line-words-most (lineAt text p) (omega (arith, line-most text p h g)),
+      column-words-most (p - startAt text p + 1) (omega arith),
+      fault-most (eqb p (length text)),
+      shown-line-most text (startAt text p),
+      mark-most (p - startAt text p),
+      tested-most (couldStand (take p text)),
+    )
+
+pub range-room : (text : Text) (p : ℕ) → p ≤ length text → length text ≤ rulesFile → length (rangeAdvice text p) ≤ adviceRoom
+unfolding rangeAdvice
+range-room text p h g =
+    omega (
+      arith,
+      length-append (lineWords (lineAt text p)) (tooMuch ++ shownLine (drop (startAt text p) text)),
+      length-append tooMuch (shownLine (drop (startAt text p) text)),
+      line-words-most (lineAt text p) (omega (arith, line-most text p h g)),
+      too-much-most,
+      shown-line-most text (startAt text p),
+    )
+
+abbrev Fits : List ℕ → Type 0
+Fits w = length w ≤ adviceRoom
+
+none-fits : Fits []
+none-fits = omega arith
+
+pub advice-room : (text : Text) (r : Refusal) → length text ≤ rulesFile → length (adviceOf text r) ≤ adviceRoom
+unfolding adviceOf noRule unread quoted
+advice-room text (Typed p) h =
+    by-cond Fits (ltb (length text) p) {x = []} {y = typedAdvice text p} (λ e. none-fits)
+    (λ e. typed-room text p (ltb-false (length text) p e) h)
+advice-room text (Range p) h =
+    by-cond Fits (eqb (length text) 0) {x = noRule} {y = cond (ltb (length text) p) [] (rangeAdvice text p)} (λ e. omega arith)
+    (λ e. by-cond Fits (ltb (length text) p) {x = []} {y = rangeAdvice text p} (λ f. none-fits) (λ f. range-room text p (ltb-false (length text) p f) h))
+advice-room text Input h = omega arith
+advice-room text (Short p) h = none-fits
+advice-room text (Number p) h = none-fits
+advice-room text (Stack p) h = none-fits
+advice-room text (Tail p) h = none-fits
+advice-room text (Long p) h = none-fits
+advice-room text (Pool p) h = none-fits
+advice-room text (States p) h = none-fits
+advice-room text (Runs p) h = none-fits
+advice-room text Loaded h = none-fits
+advice-room text Room h = none-fits
+advice-room text (Pairs p) h = none-fits

@@ -1,0 +1,30 @@
+-- Rules typed as text. Definitions, in reading order: Sets, Exp, Spells, Lines; then what is computed: Scan, Reader, LineReader, Calls;
+-- then what the theorems say: Bought, Quoted, Classes, Worked. Main has the theorems; the other files prove them.
+pub mod Sets
+pub mod Exp
+pub mod Spells
+pub mod Lines
+pub mod Scan
+pub mod Reader
+pub mod LineReader
+pub mod Calls
+pub mod Bought
+pub mod Quoted
+pub mod Classes
+pub mod Worked
+pub mod TestLaws
+pub mod ScanLaws
+pub mod SpelledIsRead
+pub mod ReadIsSpelled
+pub mod Completes
+pub mod LineLaws
+pub mod WrongLaws
+pub mod NewlineLaws
+pub mod ClassLaws
+pub mod PostfixLaws
+pub mod CallLaws
+pub mod AnswerLaws
+pub mod RangeLaws
+pub mod BookLaws
+pub mod WorkedLaws
+pub mod Main
