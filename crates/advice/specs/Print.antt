@@ -15,7 +15,7 @@ use Rattle.number.specs.Refused.Outcome.{gives, refuses}
 use Rattle.table.specs.declared.Written.{Written}
 use Rattle.table.specs.declared.Written.the-variants.{Bytes, Unwritten}
 use Rattle.table.specs.Calls.{wrote}
-use Rattle.typed.specs.Calls.{bookBytes, putBook, typeOf}
+use Rattle.typed.specs.Calls.{bookBytes, putBook}
 use Rattle.typed.specs.Main.{the-length}
 use Rattle.typing.specs.Promises.{Types}
 

@@ -1,11 +1,10 @@
 -- Advice on five texts, as people see it: a name that no set has, a text that ends too early, one that starts wrongly, no rule, and too large a kind.
 -- The checker computes each from the definitions, byte by byte, so a definition that says something else is refused here.
-use Prim.Native.Nat.{ℕ}
 use Prim.Native.String.{String, _++_}
-use mathlib.Core.Path.{_≡_, refl}
+use mathlib.Core.Path.{_≡_}
 use mathlib.Core.Bool.{Bool, true, _&&_}
 use mathlib.Core.List.{List, [], _∷_}
-use lib.Dec.{T, eqb, eqb→eq}
+use lib.Dec.{T}
 use Rattle.number.specs.declared.Refusal.{Refusal}
 use Rattle.number.specs.declared.Refusal.the-variants.{Range, Typed}
 use Rattle.number.specs.Numbers.{writeNumber}
@@ -20,6 +19,7 @@ use Rattle.typed.specs.Scan.{scan}
 use Rattle.typed.specs.Lines.{digit}
 use Rattle.typed.specs.LineReader.{begins, colon, onDigit, ends, stepped, turn, accept, readLines}
 use Rattle.typed.specs.Calls.{bookOf, outOf, fault, startOf, ranged, answered, bookBytes}
+use Rattle.typed.specs.WorkedLaws.{same-bytes}
 use Rattle.typed.specs.Quoted.{quoted}
 use Rattle.typed.specs.TestLaws.{both-hold}
 use Rattle.advice.specs.Advice.{newlines, lastStart, shown, markLine, couldStand, kept, neighbours, joined, runs, byteName, runName, runNames, testedLine}
@@ -79,17 +79,6 @@ tests (x ∷ xs) = test x && tests xs
 cases-pass : T (tests cases)
 unfolding cases test tests
 cases-pass = tt
-
-same-bytes : (xs ys : List ℕ) → T (sameBytes xs ys) → xs ≡ ys
-unfolding sameBytes
-same-bytes [] [] p = refl
-same-bytes [] (y ∷ ys) p = absurd p
-same-bytes (x ∷ xs) [] p = absurd p
-same-bytes (x ∷ xs) (y ∷ ys) p =
-    let q = both-hold (eqb x y) (sameBytes xs ys) p in
-    let d = eqb→eq x y (q .0) in
-    let e = same-bytes xs ys (q .1) in
-    cc
 
 test-holds : (x : Case) → T (test x) → Holds x
 unfolding test

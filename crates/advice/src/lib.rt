@@ -3,7 +3,6 @@
 ghost use Prim.Native.Nat.{_+_, _-_, _*_, _<_, _≤_};
 ghost use mathlib.Core.Path.{_≡_};
 ghost use mathlib.Core.Bool.{true};
-ghost use mathlib.Core.List.{[], _∷_};
 ghost use lib.ListN.{length, drop, take};
 ghost use Rattle.number.specs.Lists.{Writes};
 ghost use Rattle.number.specs.Limits.{bytes, rulesFile, typedArea};

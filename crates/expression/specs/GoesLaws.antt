@@ -1,20 +1,20 @@
 -- Laws of going over bytes: none, one, one span after another; and readings that begin with such a span.
 -- Also what each byte is to the byte-by-byte reader outside escapes and names.
-use Prim.Native.Nat.{ℕ, zero, suc, _+_, _<_, _≤_}
+use Prim.Native.Nat.{ℕ, suc, _+_, _<_, _≤_}
 use native.Mathlib.Omega.{arith}
-use mathlib.Core.Path.{_≡_, refl, sym, ap, subst, _∙_}
-use mathlib.Core.Bool.{Bool, true, false, cond, _||_}
+use mathlib.Core.Path.{_≡_, refl, sym, ap, _∙_}
+use mathlib.Core.Bool.{true, false, _||_}
 use mathlib.Core.Option.{Option}
 use mathlib.Core.Option.Option.{none, some}
 use mathlib.Core.List.{List, [], _∷_, _++_}
 use lib.Dec.{eqb}
 use lib.ListN.{length, getD, take, drop, take-append-drop}
 use lib.Seq.{slice, slice-empty, slice-cons, take-take, drop-append-le, length-take-le}
-use borrow.Author.Tests.{eqb-true, ne-eqb}
+use borrow.Author.Tests.{eqb-true}
 use Rattle.number.specs.Branch.{by-cond}
 use Rattle.typed.specs.Exp.{Exp}
-use Rattle.typed.specs.Spells.{between, bare}
-use Rattle.typed.specs.Reader.{Key, Mark, Frame, State, Step, key, opened, shut, shutIn, barred, marks, byKey, step, onward, runs, ended}
+use Rattle.typed.specs.Spells.{bare}
+use Rattle.typed.specs.Reader.{Key, Mark, Frame, State, Step, key, shut, shutIn, barred, marks, byKey, step, onward, runs, ended}
 use Rattle.typed.specs.Reader.Key.{shuts, bar, mark, other}
 use Rattle.typed.specs.Reader.Mark.{many, more, perhaps}
 use Rattle.typed.specs.Reader.Frame.{bared, held}
@@ -22,11 +22,12 @@ use Rattle.typed.specs.Reader.Mode.{plain}
 use Rattle.typed.specs.Reader.State.{at}
 use Rattle.typed.specs.Reader.Step.{wrong, go}
 use Rattle.typed.specs.SpelledIsRead.{runs-append}
+use Rattle.typed.specs.TestLaws.{or-false}
 use Rattle.names.specs.Bytes.{byteAt, starting, marking}
 use Rattle.names.specs.ByteLaws.{byte-inside}
 use Rattle.expression.specs.declared.Read.{Read}
-use Rattle.expression.specs.declared.Read.the-variants.{At, Wrong}
-use Rattle.expression.specs.Reads.{Goes, Halts, Reads, Due}
+use Rattle.expression.specs.declared.Read.the-variants.{Wrong}
+use Rattle.expression.specs.Reads.{Goes, Reads, Due}
 use Rattle.expression.specs.Reads.Reads.{reads, stops}
 use Rattle.expression.specs.Reads.Due.{outermost, after-bar, not-shut, goes-on}
 
@@ -82,10 +83,6 @@ module _ {text cells : List ℕ} {p top : ℕ} {s : State} {T : Exp → State �
   still-wrong c₂ (stops u g h) = stops u g h
 
 -- ---- what a byte is
-
-pub or-false : (a b : Bool) → a || b ≡ false → (a ≡ false) × (b ≡ false)
-or-false true b h = let z : true ≡ false = h in (cc, cc)
-or-false false b h = (refl, h)
 
 pub no-both : true ≡ false → ⊥
 no-both e = let z : _≡_ {A = ℕ} 0 1 = cc in omega arith

@@ -1,8 +1,7 @@
 -- One law a return of the readers of an escape, a name and a leaf.
 -- Each is the byte-by-byte reader's steps over what was read, and the nodes that were laid.
-use Prim.Native.Nat.{ℕ, suc, _+_, _*_, _<_, _≤_}
+use Prim.Native.Nat.{ℕ, _+_, _*_, _<_, _≤_}
 use native.Mathlib.Omega.{arith}
-use native.Mathlib.Numerals.{add-one}
 use mathlib.Core.Path.{_≡_, refl, sym, ap, subst, _∙_}
 use mathlib.Core.Bool.{true, false}
 use mathlib.Core.Option.{Option}
@@ -12,11 +11,11 @@ use lib.ListN.{length}
 use lib.Seq.{slice, slice-empty}
 use Rattle.number.specs.Limits.{lastByte}
 use Rattle.book.specs.declared.Node.the-variants.{Range}
-use Rattle.typed.specs.Exp.{Exp, postfix}
+use Rattle.typed.specs.Exp.{postfix}
 use Rattle.typed.specs.Exp.Exp.{byte, dot, set}
 use Rattle.typed.specs.Sets.{sets}
 use Rattle.typed.specs.Spells.{between, bare, hex}
-use Rattle.typed.specs.Reader.{Known, Frame, State, Step, put, key, known, byKey, firstDigit, lastDigit, byName, step, ended}
+use Rattle.typed.specs.Reader.{Known, Frame, put, key, known, byKey, firstDigit, lastDigit, byName, step, ended}
 use Rattle.typed.specs.Reader.Known.{unknown, begun, whole}
 use Rattle.typed.specs.Reader.Mode.{plain, escape, half, naming}
 use Rattle.typed.specs.Reader.State.{at}
@@ -32,7 +31,7 @@ use Rattle.names.specs.Names.{knownNumber}
 use Rattle.names.specs.NameLaws.{is-set, is-begun, is-unknown}
 use Rattle.expression.specs.declared.Read.{Read}
 use Rattle.expression.specs.declared.Read.the-variants.{At, Wrong}
-use Rattle.expression.specs.Reads.{Goes, Halts, Reads, Within, Due, Item, Any}
+use Rattle.expression.specs.Reads.{Goes, Within}
 use Rattle.expression.specs.Reads.Reads.{reads, stops}
 use Rattle.expression.specs.Reads.Within.{ahead, not-back}
 use Rattle.expression.specs.Reads.Item.{placed}

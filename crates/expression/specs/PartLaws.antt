@@ -3,10 +3,10 @@
 use Prim.Native.Nat.{ℕ, suc, _+_, _<_, _≤_}
 use native.Mathlib.Omega.{arith}
 use mathlib.Core.Path.{_≡_, refl, sym, ap, subst, _∙_}
-use mathlib.Core.Bool.{Bool, true, false, cond, _||_}
+use mathlib.Core.Bool.{Bool, true, false, _||_}
 use mathlib.Core.Option.{Option}
 use mathlib.Core.Option.Option.{none, some}
-use mathlib.Core.List.{List, [], _∷_, _++_, append-assoc}
+use mathlib.Core.List.{List, [], _∷_}
 use lib.Dec.{eqb}
 use lib.ListN.{length}
 use borrow.Author.Tests.{eqb-true}
@@ -14,23 +14,23 @@ use Rattle.book.specs.declared.Node.the-variants.{Empty, Cat, Alt}
 use Rattle.typed.specs.Exp.{Exp, postfix}
 use Rattle.typed.specs.Exp.Exp.{empty, cat, alt}
 use Rattle.typed.specs.Spells.{between, bare}
-use Rattle.typed.specs.Reader.{Key, Mark, Frame, State, Step, catOn, altOn, made, put, marked, key, opened, shut, shutIn, barred, byKey, step, ended}
+use Rattle.typed.specs.Reader.{Key, Mark, Frame, State, catOn, made, put, marked, key, opened, shut, shutIn, barred, byKey, step, ended}
 use Rattle.typed.specs.Reader.{marks as marksOf}
 use Rattle.typed.specs.Reader.Key.{mark, other}
 use Rattle.typed.specs.Reader.Frame.{bared, held}
 use Rattle.typed.specs.Reader.Mode.{plain}
 use Rattle.typed.specs.Reader.State.{at}
 use Rattle.typed.specs.Reader.Step.{wrong, go}
-use Rattle.laid.specs.Laid.{pack, AddsCell, Adds, markOf, Marked}
-use Rattle.laid.specs.LaidLaws.{lays-capped, adds-node, adds-then, adds-as}
+use Rattle.laid.specs.Laid.{AddsCell, Adds, markOf, Marked}
+use Rattle.laid.specs.LaidLaws.{lays-capped, adds-node, adds-then}
 use Rattle.names.specs.Bytes.{byteAt, starting, marking}
 use Rattle.names.specs.ByteLaws.{byte-there, byte-past}
 use Rattle.expression.specs.declared.Read.{Read}
 use Rattle.expression.specs.declared.Read.the-variants.{At, Wrong}
-use Rattle.expression.specs.Reads.{Goes, Halts, Reads, Within, Due, Item, Row, Chosen, Any, NoMark, Breaks, Ends, AtomRead, SequenceRead, ChoiceRead}
+use Rattle.expression.specs.Reads.{Goes, Reads, Within, Item, Row, Chosen, Any, NoMark, Breaks, Ends, AtomRead, SequenceRead, ChoiceRead}
 use Rattle.expression.specs.Reads.Reads.{reads, stops}
 use Rattle.expression.specs.Reads.Within.{ahead, not-back}
-use Rattle.expression.specs.Reads.Due.{outermost, after-bar, not-shut, goes-on}
+use Rattle.expression.specs.Reads.Due.{after-bar, not-shut, goes-on}
 use Rattle.expression.specs.Reads.Item.{placed}
 use Rattle.expression.specs.Reads.Row.{in-row}
 use Rattle.expression.specs.Reads.Chosen.{chosen}

@@ -1,6 +1,6 @@
 -- What a reader of a part answers: from a place and a state of the byte-by-byte reader, the state after what it read, and the nodes it laid;
 -- or the wrong byte, which that reader does not take in the state it has reached. For every state in which the part may be due.
-use Prim.Native.Nat.{ℕ, suc, _+_, _<_, _≤_}
+use Prim.Native.Nat.{ℕ, _<_, _≤_}
 use mathlib.Core.Path.{_≡_}
 use mathlib.Core.Bool.{true, false}
 use mathlib.Core.Option.{Option}
@@ -9,7 +9,7 @@ use mathlib.Core.List.{List, []}
 use lib.ListN.{length}
 use lib.Seq.{slice}
 use Rattle.typed.specs.Exp.{Exp, postfix}
-use Rattle.typed.specs.Reader.{Frame, State, Step, catOn, made, put, step, runs, ended}
+use Rattle.typed.specs.Reader.{Frame, State, catOn, made, put, step, runs, ended}
 use Rattle.typed.specs.Reader.Frame.{bared, held}
 use Rattle.typed.specs.Reader.Mode.{plain}
 use Rattle.typed.specs.Reader.State.{at}

@@ -4,7 +4,6 @@ use Prim.Native.Nat.{ℕ, suc}
 use mathlib.Core.Path.{_≡_}
 use mathlib.Core.List.{List, [], _∷_}
 use lib.ListN.{length}
-use Rattle.typed.specs.Exp.{Exp}
 use Rattle.typed.specs.Reader.{Frame, State}
 use Rattle.typed.specs.Reader.Mode.{plain, escape, naming}
 use Rattle.typed.specs.Reader.State.{at}

@@ -4,7 +4,7 @@ ghost use mathlib.Core.Path.{_≡_};
 ghost use Prim.Native.Nat.{_≤_, _+_};
 ghost use lib.ListN.{length};
 ghost use Rattle.number.specs.Limits.{nodes};
-ghost use Rattle.expression.specs.Reads.{Any, NoMark, Breaks, Ends, AtomRead, SequenceRead, ChoiceRead};
+ghost use Rattle.expression.specs.Reads.{Any, Breaks, Ends, AtomRead, SequenceRead, ChoiceRead};
 ghost use Rattle.expression.specs.Steps.{LeafRead, EscapeRead, NameRead, MarksRead, ShutRead};
 use laid::ALT;
 use laid::CAT;

@@ -1,6 +1,6 @@
 -- What it is that nodes lie in cells, one after the other, up to a count; and what each function that lays some does to that.
 -- Past the limit only that there are more is kept, so nothing is asked of the cells then.
-use Prim.Native.Nat.{ℕ, suc, _+_, _*_, _≤_, _<_}
+use Prim.Native.Nat.{ℕ, _+_, _*_, _≤_, _<_}
 use mathlib.Core.Path.{_≡_}
 use mathlib.Core.Bool.{cond}
 use mathlib.Core.List.{List, [], _∷_, _++_, map}

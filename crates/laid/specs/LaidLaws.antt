@@ -10,10 +10,9 @@ use lib.ListN.{length, getD, take, set, length-append, length-set, List·getD-ap
 use lib.Seq.{take-suc-set, take-suc, take-all, getD-append-add, getD-take}
 use Rattle.number.specs.Limits.{nodes}
 use Rattle.book.specs.declared.Node.{Node}
-use Rattle.book.specs.declared.Node.the-variants.{Nothing, Empty, Range, Cat, Alt, Star, Either}
-use Rattle.typed.specs.Exp.{Exp, postfix}
-use Rattle.typed.specs.Reader.{Mark}
-use Rattle.typed.specs.Reader.Mark.{many, more, perhaps}
+use Rattle.book.specs.declared.Node.the-variants.{Nothing, Empty, Cat, Alt, Star}
+use Rattle.typed.specs.Exp.{postfix}
+use Rattle.typed.specs.Reader.Mark.{more}
 use Rattle.laid.specs.Laid.{pack, Capped, Lays, AddsCell, Adds, Again, markOf, Marked}
 use Rattle.laid.specs.Laid.Capped.{fits, over}
 use Rattle.laid.specs.Laid.Lays.{lies, lost}

@@ -12,7 +12,7 @@ use Rattle.meaning.specs.Lang.{Same}
 use Rattle.meaning.specs.LangLaws.{then-same, many-same}
 use Rattle.meaning.specs.Means.{Matches}
 use Rattle.book.specs.declared.Node.{Node}
-use Rattle.book.specs.declared.Node.the-variants.{Nothing, Empty, Range, Cat, Alt, Star}
+use Rattle.book.specs.declared.Node.the-variants.{Empty, Cat, Alt, Star}
 use Rattle.book.specs.Valid.{Leaves}
 use Rattle.book.specs.Expression.{stacked, run}
 use Rattle.typed.specs.Sets.{Set, Span, spans}

@@ -48,7 +48,7 @@ cases-pass : T (tests cases)
 unfolding cases test tests
 cases-pass = tt
 
-same-bytes : (xs ys : List ℕ) → T (sameBytes xs ys) → xs ≡ ys
+pub same-bytes : (xs ys : List ℕ) → T (sameBytes xs ys) → xs ≡ ys
 unfolding sameBytes
 same-bytes [] [] p = refl
 same-bytes [] (y ∷ ys) p = absurd p

@@ -10,24 +10,23 @@ use mathlib.Core.List.{List, [], _∷_, _++_}
 use lib.Dec.{eqb}
 use lib.ListN.{length, getD, take}
 use lib.Seq.{slice, slice-empty, take-all}
-use borrow.Author.Tests.{eq-eqb, ne-eqb, eqb-true}
-use Rattle.number.specs.Limits.{kinds, nodes, deep}
+use borrow.Author.Tests.{ne-eqb, eqb-true}
+use Rattle.number.specs.Limits.{kinds, deep}
 use Rattle.number.specs.Branch.{by-cond}
 use Rattle.meaning.specs.Re.{Text}
-use Rattle.typed.specs.Exp.{Exp, postfix}
+use Rattle.typed.specs.Exp.{Exp}
 use Rattle.typed.specs.Spells.{between}
 use Rattle.typed.specs.Lines.{Line, digit}
 use Rattle.typed.specs.Lines.Line.{rule}
-use Rattle.typed.specs.Reader.{Key, Frame, State, Step, made, shut, byKey, step, ended, begin}
-use Rattle.typed.specs.Reader.Key.{shuts, bar, mark, other}
-use Rattle.typed.specs.Reader.Frame.{bared, held}
+use Rattle.typed.specs.Reader.{Key, Frame, State, made, shut, byKey, step, ended, begin}
+use Rattle.typed.specs.Reader.Frame.{held}
 use Rattle.typed.specs.Reader.Mode.{plain}
 use Rattle.typed.specs.Reader.State.{at}
 use Rattle.typed.specs.Reader.Step.{wrong, go}
 use Rattle.typed.specs.Scan.{Reading, atEnd, scan, after, then, accepted}
 use Rattle.typed.specs.Scan.Reading.{typed}
 use Rattle.typed.specs.ScanLaws.{after-append, after-none, typed-scan}
-use Rattle.typed.specs.LineReader.{Place, Whole, begins, colon, onDigit, ends, stepped, turn, accept, atFirst, readLines}
+use Rattle.typed.specs.LineReader.{Whole, begins, colon, onDigit, ends, stepped, turn, accept, atFirst, readLines}
 use Rattle.typed.specs.LineReader.Place.{starting, zeroed, counted, reading}
 use Rattle.typed.specs.LineReader.Whole.{whole}
 use Rattle.typed.specs.LineLaws.{steps-read, newline-read}
@@ -38,7 +37,7 @@ use Rattle.laid.specs.Laid.Lays.{lies}
 use Rattle.names.specs.Bytes.{byteAt, starting as startingByte, marking, digitNumber}
 use Rattle.names.specs.ByteLaws.{byte-inside, byte-there}
 use Rattle.expression.specs.declared.Read.the-variants as read
-use Rattle.expression.specs.Reads.{Goes, Halts, Reads, Chosen, Ends, ChoiceRead}
+use Rattle.expression.specs.Reads.{Goes, Reads, Chosen, Ends, ChoiceRead}
 use Rattle.expression.specs.Reads.Reads.{reads, stops}
 use Rattle.expression.specs.Reads.Due.{outermost}
 use Rattle.expression.specs.Reads.Chosen.{chosen}
@@ -48,7 +47,7 @@ use Rattle.typing.specs.declared.KindRead.{KindRead}
 use Rattle.typing.specs.declared.KindRead.the-variants.{Kind, Wrong}
 use Rattle.typing.specs.declared.LineRead.{LineRead}
 use Rattle.typing.specs.declared.LineRead.the-variants as line
-use Rattle.typing.specs.Passes.{Passes, Stuck, Fails, KindReads, Awaits, ColonReads, Longer, LineReads}
+use Rattle.typing.specs.Passes.{Passes, Fails, KindReads, ColonReads, Longer, LineReads}
 use Rattle.typing.specs.Passes.KindReads.{kind-read, kind-wrong}
 use Rattle.typing.specs.Passes.LineReads.{line-read, line-wrong}
 

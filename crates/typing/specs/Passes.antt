@@ -12,7 +12,7 @@ use Rattle.typed.specs.Lines.{Line}
 use Rattle.typed.specs.Lines.Line.{rule}
 use Rattle.typed.specs.Reader.{begin}
 use Rattle.typed.specs.Scan.{after}
-use Rattle.typed.specs.LineReader.{Place, Whole, turn, accept, colon}
+use Rattle.typed.specs.LineReader.{Whole, turn, accept, colon}
 use Rattle.typed.specs.LineReader.Place.{starting, reading}
 use Rattle.typed.specs.LineReader.Whole.{whole}
 use Rattle.laid.specs.Laid.{Capped, Lays}

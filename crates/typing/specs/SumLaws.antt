@@ -3,44 +3,41 @@
 use Prim.Native.Nat.{ℕ, zero, suc, _+_, _*_, _-_, _<_, _≤_}
 use native.Mathlib.Omega.{arith}
 use mathlib.Core.Path.{_≡_, refl, sym, ap, subst, _∙_}
-use mathlib.Core.Bool.{Bool, true, false, cond, _||_}
-use mathlib.Core.Option.{Option}
-use mathlib.Core.Option.Option.{none, some}
+use mathlib.Core.Bool.{Bool, true, false, _||_}
+use mathlib.Core.Option.Option.{some}
 use mathlib.Core.List.{List, [], _∷_, _++_, map, append-assoc, append-nil}
-use lib.Dec.{ltb, eqb}
+use lib.Dec.{ltb}
 use lib.ListN.{length, getD, take, drop, set as stored, length-append, length-set, length-map}
 use lib.Seq.{take-suc, length-take-le}
-use borrow.Author.Tests.{lt-ltb, le-ltb, ltb-false, eq-eqb, ne-eqb}
+use borrow.Author.Tests.{lt-ltb, le-ltb, eq-eqb, ne-eqb}
 use Rattle.number.specs.declared.Refusal.{Refusal}
 use Rattle.number.specs.declared.Refusal.the-variants.{Range, Room, Typed}
-use Rattle.number.specs.Limits.{version, rules, kinds, nodes, typedArea, lastByte}
+use Rattle.number.specs.Limits.{version, rules, kinds, nodes, typedArea}
 use Rattle.number.specs.Refused.{Outcome}
 use Rattle.number.specs.Refused.Outcome.{gives, refuses}
 use Rattle.number.specs.Lists.{Writes, written, writes-none, writes-then, take-written, stored-one, drop-one}
 use Rattle.number.specs.Numbers.{writeNumber}
 use Rattle.book.specs.declared.Node.{Node}
-use Rattle.book.specs.declared.Node.the-variants.{Empty, Range as RangeNode, Cat, Alt, Star}
-use Rattle.book.specs.Book.{Rule, total, writeNodes, writeRule, writeRules, writeBook}
+use Rattle.book.specs.declared.Node.the-variants.{Empty, Cat, Alt, Star}
+use Rattle.book.specs.Book.{total, writeNodes, writeRule, writeRules, writeBook}
 use Rattle.table.specs.declared.Written.{Written}
 use Rattle.table.specs.declared.Written.the-variants.{Bytes, Unwritten}
-use Rattle.table.specs.Calls.{wrote}
 use Rattle.typed.specs.Sets.{Span, spans}
 use Rattle.typed.specs.Sets.Span.{span}
 use Rattle.typed.specs.Exp.{Exp, joined, ranges, postfix}
 use Rattle.typed.specs.Exp.Exp.{byte, dot, set, empty, cat, alt, star, plus, maybe}
-use Rattle.typed.specs.Lines.{Line, SpellsAll}
+use Rattle.typed.specs.Lines.{Line}
 use Rattle.typed.specs.Lines.Line.{rule}
-use Rattle.typed.specs.Scan.Reading.{typed, wrong}
-use Rattle.typed.specs.LineReader.{Whole, readLines, atFirst}
+use Rattle.typed.specs.Scan.Reading.{typed}
+use Rattle.typed.specs.LineReader.{readLines, atFirst}
 use Rattle.typed.specs.LineReader.Place.{starting}
 use Rattle.typed.specs.LineReader.Whole.{whole}
 use Rattle.typed.specs.LineLaws.{the-typing}
-use Rattle.typed.specs.PostfixLaws.{Fits, postfix-leaves}
+use Rattle.typed.specs.PostfixLaws.{Fits}
 use Rattle.typed.specs.Calls.{ruleOf, bookOf, outOf, fault, startOf, bookBytes, putBook}
 use Rattle.typed.specs.CallLaws.{AllFit, all-fit, in-of}
-use Rattle.typed.specs.CallLaws.AllFit.{none-fit, more-fit}
+use Rattle.typed.specs.CallLaws.AllFit.{more-fit}
 use Rattle.typed.specs.RangeLaws.{totalOf, total-more, limits-more, limits-last, limits-none, out-of}
-use Rattle.typed.specs.Bought.{InLimits}
 use Rattle.typed.specs.Classes.{Rising}
 use Rattle.typed.specs.ClassLaws.{rises}
 use Rattle.typed.specs.AnswerLaws.{when-wrong, when-none, when-out, when-right}
@@ -49,7 +46,7 @@ use Rattle.laid.specs.Laid.Capped.{fits, over}
 use Rattle.laid.specs.Laid.Lays.{lies, lost}
 use Rattle.laid.specs.Bytes.{cellsBytes}
 use Rattle.laid.specs.LaidLaws.{lays-capped}
-use Rattle.laid.specs.ByteLaws.{width-most, cells-most, writes-same, Typable, AllTypable, nodes-bytes}
+use Rattle.laid.specs.ByteLaws.{width-most, cells-most, writes-same, AllTypable, nodes-bytes}
 use Rattle.expression.specs.GoesLaws.{no-both}
 use Rattle.typing.specs.declared.Sum.{Sum}
 use Rattle.typing.specs.declared.LineRead.the-variants as line

@@ -2,13 +2,10 @@
 // The call takes every text and every area; a refusal leaves the output as it was.
 ghost use mathlib.Core.Path.{_≡_};
 ghost use Prim.Native.Nat.{_+_, _≤_, _<_};
-ghost use mathlib.Core.List.{_++_};
 ghost use lib.ListN.{length, take};
-ghost use Rattle.number.specs.Limits.{version, rules, kinds, nodes, typedArea};
+ghost use Rattle.number.specs.Limits.{rules, kinds, nodes, typedArea};
 ghost use Rattle.number.specs.Lists.{Writes};
-ghost use Rattle.number.specs.Numbers.{writeNumber};
 ghost use Rattle.typed.specs.Calls.{outOf, startOf};
-ghost use Rattle.laid.specs.Laid.{Capped};
 ghost use Rattle.typing.specs.Promises.{Types, Given, Ready};
 ghost use Rattle.typing.specs.Passes.{KindReads, ColonReads, Longer, LineReads};
 ghost use Rattle.typing.specs.Sums.{Roomy, AddsLine, RulesReads, Finishes, LeftAfter};

@@ -10,12 +10,6 @@ use Rattle.advice.specs.RoomLaws.{typed-room, range-room}
 use borrow.Author.Needs.{needs}
 use Rattle.advice.proofs.advise.Statement.{statement}
 use Rattle.advice.proofs.advise.Tie as tie
-use Rattle.advice.proofs.advise.Reads as reads
-use Rattle.advice.proofs.advise.Lts as lts
-use Rattle.advice.proofs.put_range.Reads as put-range-reads
-use Rattle.advice.proofs.put_text.Reads as put-text-reads
-use Rattle.advice.proofs.put_typed.Reads as put-typed-reads
-use Rattle.advice.proofs.put_unread.Reads as put-unread-reads
 
 enum-known-r : tie.Need-enum-known-r
 enum-known-r c = search needs

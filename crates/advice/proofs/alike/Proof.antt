@@ -1,15 +1,11 @@
 -- `advice::alike` meets its contract: one law a return.
 -- Assumes nothing.
-use native.Mathlib.Omega.{arith}
 use mathlib.Core.Path.{sym, _∙_}
 use borrow.Author.Tests.{not-true, not-false}
 use Rattle.advice.specs.RunLaws.{alike-not, alike-next}
 use borrow.Author.Needs.{needs}
 use Rattle.advice.proofs.alike.Statement.{statement}
 use Rattle.advice.proofs.alike.Tie as tie
-use Rattle.advice.proofs.alike.Reads as reads
-use Rattle.advice.proofs.alike.Lts as lts
-use Rattle.names.proofs.is_bare.Reads as is-bare-reads
 
 cast-is-bare : tie.Need-cast-is-bare
 cast-is-bare c = search needs

@@ -6,10 +6,6 @@ use Rattle.advice.specs.TryLaws.{could-given, could-refused}
 use borrow.Author.Needs.{needs}
 use Rattle.advice.proofs.could_end.Statement.{statement}
 use Rattle.advice.proofs.could_end.Tie as tie
-use Rattle.advice.proofs.could_end.Reads as reads
-use Rattle.advice.proofs.could_end.Lts as lts
-use Rattle.advice.proofs.elsewhere.Reads as elsewhere-reads
-use Rattle.typing.proofs.type_rules.Reads as type-rules-reads
 
 slice-aggregate-type-rules : tie.Need-slice-aggregate-type-rules
 slice-aggregate-type-rules c = search needs

@@ -4,10 +4,6 @@ use Rattle.advice.specs.TryLaws.{other-number, other-place, wrong-there}
 use borrow.Author.Needs.{needs}
 use Rattle.advice.proofs.elsewhere.Statement.{statement}
 use Rattle.advice.proofs.elsewhere.Tie as tie
-use Rattle.advice.proofs.elsewhere.Reads as reads
-use Rattle.advice.proofs.elsewhere.Lts as lts
-use Rattle.number.proofs.refusal_number.Reads as refusal-number-reads
-use Rattle.number.proofs.refusal_place.Reads as refusal-place-reads
 
 refusal-number-requires : tie.Need-refusal-number-requires
 refusal-number-requires c κs = search needs

@@ -7,8 +7,6 @@ use lib.ListN.{length}
 use Rattle.advice.specs.SpotLaws.{SpotSoFar, spot-first, spot-newline, spot-other, spot-as, spot-last}
 use Rattle.advice.proofs.find_spot.Statement.{statement}
 use Rattle.advice.proofs.find_spot.Tie as tie
-use Rattle.advice.proofs.find_spot.Reads as reads
-use Rattle.advice.proofs.find_spot.Lts as lts
 
 abbrev Inv-loop : tie.InvT-loop
 Inv-loop before line₀ start₀ i₀ line start i = (i ≤ length before) × SpotSoFar before i line start

@@ -5,8 +5,6 @@ use Prim.Native.Nat.{_-_}
 use Rattle.advice.specs.RunLaws.{Passed, passed-none, passed-more, next-up, next-none}
 use Rattle.advice.proofs.next_up.Statement.{statement}
 use Rattle.advice.proofs.next_up.Tie as tie
-use Rattle.advice.proofs.next_up.Reads as reads
-use Rattle.advice.proofs.next_up.Lts as lts
 
 abbrev Inv-loop : tie.InvT-loop
 Inv-loop found c r₀ r = Passed found c r

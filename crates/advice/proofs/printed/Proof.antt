@@ -3,8 +3,6 @@
 use borrow.Author.Tests.{lt-ltb, le-ltb}
 use Rattle.advice.proofs.printed.Statement.{statement}
 use Rattle.advice.proofs.printed.Tie as tie
-use Rattle.advice.proofs.printed.Reads as reads
-use Rattle.advice.proofs.printed.Lts as lts
 
 returns : tie.Need-returns
 returns c = simp (lt-ltb _ _ (c .if1 .taken))

@@ -6,11 +6,6 @@ use Rattle.advice.specs.TryLaws.{copied, tried-line}
 use borrow.Author.Needs.{needs}
 use Rattle.advice.proofs.put_could_in.Statement.{statement}
 use Rattle.advice.proofs.put_could_in.Tie as tie
-use Rattle.advice.proofs.put_could_in.Reads as reads
-use Rattle.advice.proofs.put_could_in.Lts as lts
-use Rattle.advice.proofs.put_runs.Reads as put-runs-reads
-use Rattle.advice.proofs.put_text.Reads as put-text-reads
-use Rattle.advice.proofs.try_bytes.Reads as try-bytes-reads
 
 sub-put-text : tie.Need-sub-put-text
 sub-put-text c = search needs

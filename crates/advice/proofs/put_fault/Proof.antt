@@ -6,9 +6,6 @@ use Rattle.advice.specs.WriteLaws.{writes-as, room-as, fault-end, fault-
 use borrow.Author.Needs.{needs}
 use Rattle.advice.proofs.put_fault.Statement.{statement}
 use Rattle.advice.proofs.put_fault.Tie as tie
-use Rattle.advice.proofs.put_fault.Reads as reads
-use Rattle.advice.proofs.put_fault.Lts as lts
-use Rattle.advice.proofs.put_text.Reads as put-text-reads
 
 slice-aggregate-put-text : tie.Need-slice-aggregate-put-text
 slice-aggregate-put-text c = search needs

@@ -7,10 +7,6 @@ use Rattle.advice.specs.Left.{left-room, left-step, left-last}
 use Rattle.advice.specs.WriteLaws.{line-words}
 use Rattle.advice.proofs.put_line.Statement.{statement}
 use Rattle.advice.proofs.put_line.Tie as tie
-use Rattle.advice.proofs.put_line.Reads as reads
-use Rattle.advice.proofs.put_line.Lts as lts
-use Rattle.advice.proofs.put_text.Reads as put-text-reads
-use Rattle.lines.proofs.put_decimal.Reads as put-decimal-reads
 
 slice-aggregate-put-text : tie.Need-slice-aggregate-put-text
 slice-aggregate-put-text c = search needs

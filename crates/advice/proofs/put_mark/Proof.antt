@@ -7,9 +7,6 @@ use Rattle.advice.specs.Left.{Left, left-byte, left-some, left-last}
 use Rattle.advice.specs.WriteLaws.{mark-all, mark-some, mark-more, mark-last}
 use Rattle.advice.proofs.put_mark.Statement.{statement}
 use Rattle.advice.proofs.put_mark.Tie as tie
-use Rattle.advice.proofs.put_mark.Reads as reads
-use Rattle.advice.proofs.put_mark.Lts as lts
-use Rattle.lines.proofs.put_byte.Reads as put-byte-reads
 
 abbrev Inv-loop : tie.InvT-loop
 Inv-loop before out₀ at end₀ i₀ out end i = Left (markLine before) (markLine (before - i)) out₀ out at end

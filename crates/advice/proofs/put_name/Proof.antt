@@ -7,11 +7,6 @@ use Rattle.typed.specs.Quoted.{quoted}
 use Rattle.advice.specs.WriteLaws.{writes-as, room-as, name-space, name-newline, name-other}
 use Rattle.advice.proofs.put_name.Statement.{statement}
 use Rattle.advice.proofs.put_name.Tie as tie
-use Rattle.advice.proofs.put_name.Reads as reads
-use Rattle.advice.proofs.put_name.Lts as lts
-use Rattle.advice.proofs.printed.Reads as printed-reads
-use Rattle.lines.proofs.put_byte.Reads as put-byte-reads
-use Rattle.advice.proofs.put_text.Reads as put-text-reads
 
 slice-aggregate-put-text : tie.Need-slice-aggregate-put-text
 slice-aggregate-put-text c = search needs

@@ -8,12 +8,6 @@ use Rattle.advice.specs.AdviceLaws.{range-all}
 use borrow.Author.Needs.{needs}
 use Rattle.advice.proofs.put_range.Statement.{statement}
 use Rattle.advice.proofs.put_range.Tie as tie
-use Rattle.advice.proofs.put_range.Reads as reads
-use Rattle.advice.proofs.put_range.Lts as lts
-use Rattle.advice.proofs.find_spot.Reads as find-spot-reads
-use Rattle.advice.proofs.put_line.Reads as put-line-reads
-use Rattle.advice.proofs.put_shown.Reads as put-shown-reads
-use Rattle.advice.proofs.put_too_much.Reads as put-too-much-reads
 
 sub-find-spot : tie.Need-sub-find-spot
 sub-find-spot c = search needs

@@ -6,10 +6,6 @@ use Rattle.advice.specs.Left.{left-room, left-step, left-byte, left-some
 use Rattle.advice.specs.WriteLaws.{runTail, run-all, tail-none, tail-some}
 use Rattle.advice.proofs.put_run.Statement.{statement}
 use Rattle.advice.proofs.put_run.Tie as tie
-use Rattle.advice.proofs.put_run.Reads as reads
-use Rattle.advice.proofs.put_run.Lts as lts
-use Rattle.lines.proofs.put_byte.Reads as put-byte-reads
-use Rattle.advice.proofs.put_name.Reads as put-name-reads
 
 put-byte-requires : tie.Need-put-byte-requires
 put-byte-requires c κs =

@@ -11,13 +11,6 @@ use Rattle.advice.specs.Promises.{flagged}
 use Rattle.advice.specs.RunLaws.{runsLine, line-start, line-passed, run-room, run-more, line-end}
 use Rattle.advice.proofs.put_runs.Statement.{statement}
 use Rattle.advice.proofs.put_runs.Tie as tie
-use Rattle.advice.proofs.put_runs.Reads as reads
-use Rattle.advice.proofs.put_runs.Lts as lts
-use Rattle.advice.proofs.next_up.Reads as next-up-reads
-use Rattle.lines.proofs.put_byte.Reads as put-byte-reads
-use Rattle.advice.proofs.put_run.Reads as put-run-reads
-use Rattle.advice.proofs.put_text.Reads as put-text-reads
-use Rattle.advice.proofs.run_end.Reads as run-end-reads
 
 abbrev Inv-loop : tie.InvT-loop
 Inv-loop found out₀ at end₀ lo₀ out end lo = (lo ≤ 256) × (lo < 256 → flagged found lo ≡ true) × Left (runsLine found lo₀) (runsLine found lo) out₀ out end₀ end

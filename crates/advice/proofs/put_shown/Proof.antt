@@ -9,10 +9,6 @@ use Rattle.advice.specs.Left.{Left, left-all}
 use Rattle.advice.specs.WriteLaws.{shown-some, shown-more, shown-to-newline, shown-to-end}
 use Rattle.advice.proofs.put_shown.Statement.{statement}
 use Rattle.advice.proofs.put_shown.Tie as tie
-use Rattle.advice.proofs.put_shown.Reads as reads
-use Rattle.advice.proofs.put_shown.Lts as lts
-use Rattle.advice.proofs.printed.Reads as printed-reads
-use Rattle.lines.proofs.put_byte.Reads as put-byte-reads
 
 abbrev Inv-loop : tie.InvT-loop
 Inv-loop text start out₀ at end₀ i₀ out end i = Left (shownLine (drop start text)) (shownLine (drop i text)) out₀ out at end

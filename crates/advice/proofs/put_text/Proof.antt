@@ -7,9 +7,6 @@ use Rattle.advice.specs.Left.{Left, left-all}
 use Rattle.advice.specs.WriteLaws.{text-some, text-more, text-end}
 use Rattle.advice.proofs.put_text.Statement.{statement}
 use Rattle.advice.proofs.put_text.Tie as tie
-use Rattle.advice.proofs.put_text.Reads as reads
-use Rattle.advice.proofs.put_text.Lts as lts
-use Rattle.lines.proofs.put_byte.Reads as put-byte-reads
 
 abbrev Inv-loop : tie.InvT-loop
 Inv-loop text out₀ at end₀ i₀ out end i = (i ≤ length text) × Left text (drop i text) out₀ out at end

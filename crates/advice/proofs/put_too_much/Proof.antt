@@ -7,9 +7,6 @@ use Rattle.advice.specs.Left.{left-room, left-step, left-last}
 use Rattle.advice.specs.WriteLaws.{too-much}
 use Rattle.advice.proofs.put_too_much.Statement.{statement}
 use Rattle.advice.proofs.put_too_much.Tie as tie
-use Rattle.advice.proofs.put_too_much.Reads as reads
-use Rattle.advice.proofs.put_too_much.Lts as lts
-use Rattle.advice.proofs.put_text.Reads as put-text-reads
 
 slice-aggregate-put-text : tie.Need-slice-aggregate-put-text
 slice-aggregate-put-text c = search needs

@@ -5,15 +5,6 @@ use Rattle.advice.specs.AdviceLaws.{typed-all, line-room, line-on, colum
 use borrow.Author.Needs.{needs}
 use Rattle.advice.proofs.put_typed.Statement.{statement}
 use Rattle.advice.proofs.put_typed.Tie as tie
-use Rattle.advice.proofs.put_typed.Reads as reads
-use Rattle.advice.proofs.put_typed.Lts as lts
-use Rattle.advice.proofs.find_spot.Reads as find-spot-reads
-use Rattle.advice.proofs.put_column.Reads as put-column-reads
-use Rattle.advice.proofs.put_could.Reads as put-could-reads
-use Rattle.advice.proofs.put_fault.Reads as put-fault-reads
-use Rattle.advice.proofs.put_line.Reads as put-line-reads
-use Rattle.advice.proofs.put_mark.Reads as put-mark-reads
-use Rattle.advice.proofs.put_shown.Reads as put-shown-reads
 
 sub-find-spot : tie.Need-sub-find-spot
 sub-find-spot c = search needs

@@ -5,9 +5,6 @@ use Rattle.advice.specs.Advice.{unread}
 use borrow.Author.Needs.{needs}
 use Rattle.advice.proofs.put_unread.Statement.{statement}
 use Rattle.advice.proofs.put_unread.Tie as tie
-use Rattle.advice.proofs.put_unread.Reads as reads
-use Rattle.advice.proofs.put_unread.Lts as lts
-use Rattle.advice.proofs.put_text.Reads as put-text-reads
 
 slice-aggregate-put-text : tie.Need-slice-aggregate-put-text
 slice-aggregate-put-text c = search needs

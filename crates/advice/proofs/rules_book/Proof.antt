@@ -4,9 +4,6 @@ use Rattle.advice.specs.Print.{too-long, makes-book}
 use borrow.Author.Needs.{needs}
 use Rattle.advice.proofs.rules_book.Statement.{statement}
 use Rattle.advice.proofs.rules_book.Tie as tie
-use Rattle.advice.proofs.rules_book.Reads as reads
-use Rattle.advice.proofs.rules_book.Lts as lts
-use Rattle.typing.proofs.type_rules.Reads as type-rules-reads
 
 returns : tie.Need-returns
 returns c = too-long _ _ (c .if1 .taken)

@@ -7,9 +7,6 @@ use borrow.Author.Tests.{not-true, not-false}
 use Rattle.advice.specs.RunLaws.{UpTo, up-one, up-more, run-stops, run-unlike, run-ends}
 use Rattle.advice.proofs.run_end.Statement.{statement}
 use Rattle.advice.proofs.run_end.Tie as tie
-use Rattle.advice.proofs.run_end.Reads as reads
-use Rattle.advice.proofs.run_end.Lts as lts
-use Rattle.advice.proofs.alike.Reads as alike-reads
 
 abbrev Inv-loop : tie.InvT-loop
 Inv-loop found lo hi₀ hi = UpTo found lo hi

@@ -6,9 +6,6 @@ use lib.ListN.{length-set}
 use Rattle.advice.specs.TryLaws.{Trying, trying-none, trying-more, trying-all}
 use Rattle.advice.proofs.try_bytes.Statement.{statement}
 use Rattle.advice.proofs.try_bytes.Tie as tie
-use Rattle.advice.proofs.try_bytes.Reads as reads
-use Rattle.advice.proofs.try_bytes.Lts as lts
-use Rattle.advice.proofs.could_end.Reads as could-end-reads
 
 abbrev Inv-loop : tie.InvT-loop
 Inv-loop p tried₀ found₀ c₀ tried found c = Trying p tried₀ found₀ tried found c

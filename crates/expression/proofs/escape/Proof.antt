@@ -1,7 +1,6 @@
 -- `expression::escape` meets its contract: one law a return.
 -- Assumes nothing.
-use native.Mathlib.Omega.{arith}
-use Rattle.expression.specs.LeafLaws.{escape-none, first-there, escape-half, last-there, escape-read}
+use Rattle.expression.specs.LeafLaws.{escape-none, escape-half, escape-read}
 use borrow.Author.Needs.{needs}
 use Prim.Native.Nat.{ℕ}
 use mathlib.Core.Path.{_≡_, ap, _∙_}
@@ -9,12 +8,6 @@ use Rattle.typed.specs.Spells.{hex}
 use Rattle.names.specs.Bytes.{hexNumber}
 use Rattle.expression.proofs.escape.Statement.{statement}
 use Rattle.expression.proofs.escape.Tie as tie
-use Rattle.expression.proofs.escape.Reads as reads
-use Rattle.expression.proofs.escape.Lts as lts
-use Rattle.laid.proofs.lay.Reads as lay-reads
-use Rattle.laid.proofs.range_cell.Reads as range-cell-reads
-use Rattle.names.proofs.byte_at.Reads as byte-at-reads
-use Rattle.names.proofs.hex_of.Reads as hex-of-reads
 
 -- a digit's value, of the byte that stands there
 hexed : {x c d : ℕ} → x ≡ hexNumber (hex c) → c ≡ d → x ≡ hexNumber (hex d)

@@ -1,19 +1,11 @@
 -- `expression::leaf` meets its contract: one law a return.
 -- Assumes nothing.
 use native.Mathlib.Omega.{arith}
-use mathlib.Core.Path.{_≡_, sym, _∙_}
+use mathlib.Core.Path.{sym, _∙_}
 use Rattle.expression.specs.LeafLaws.{there, leaf-escape, leaf-name, leaf-dot, leaf-bare, leaf-wrong}
 use borrow.Author.Needs.{needs}
 use Rattle.expression.proofs.leaf.Statement.{statement}
 use Rattle.expression.proofs.leaf.Tie as tie
-use Rattle.expression.proofs.leaf.Reads as reads
-use Rattle.expression.proofs.leaf.Lts as lts
-use Rattle.expression.proofs.escape.Reads as escape-reads
-use Rattle.expression.proofs.name.Reads as name-reads
-use Rattle.laid.proofs.lay.Reads as lay-reads
-use Rattle.laid.proofs.range_cell.Reads as range-cell-reads
-use Rattle.names.proofs.byte_at.Reads as byte-at-reads
-use Rattle.names.proofs.is_bare.Reads as is-bare-reads
 
 byte-at-requires : tie.Need-byte-at-requires
 byte-at-requires c κs = search needs

@@ -2,7 +2,7 @@
 -- Assumes nothing.
 use borrow.Author.Needs.{needs}
 use native.Mathlib.Omega.{arith}
-use mathlib.Core.Path.{_≡_, refl, sym, _∙_}
+use mathlib.Core.Path.{refl, sym, _∙_}
 use Prim.Native.Nat.{_-_}
 use lib.ListN.{length}
 use Rattle.expression.specs.declared.Read.the-variants.{At}
@@ -11,10 +11,6 @@ use Rattle.names.specs.ByteLaws.{byte-inside}
 use Rattle.expression.specs.PartLaws.{MarksSoFar, marks-wrong, marks-as, marks-first, marks-more, marks-done, marks-end}
 use Rattle.expression.proofs.marks.Statement.{statement}
 use Rattle.expression.proofs.marks.Tie as tie
-use Rattle.expression.proofs.marks.Reads as reads
-use Rattle.expression.proofs.marks.Lts as lts
-use Rattle.laid.proofs.mark.Reads as mark-reads
-use Rattle.names.proofs.is_mark.Reads as is-mark-reads
 
 abbrev Inv-loop : tie.InvT-loop
 Inv-loop text cells₀ start from count p₀ t₀ cells p t = MarksSoFar text (At from count) cells₀ start cells p t

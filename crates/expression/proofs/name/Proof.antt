@@ -8,10 +8,6 @@ use lib.ListN.{length}
 use Rattle.expression.specs.LeafLaws.{Naming, naming-none, naming-more, name-read, name-unknown, name-ends, name-from}
 use Rattle.expression.proofs.name.Statement.{statement}
 use Rattle.expression.proofs.name.Tie as tie
-use Rattle.expression.proofs.name.Reads as reads
-use Rattle.expression.proofs.name.Lts as lts
-use Rattle.laid.proofs.lay_set.Reads as lay-set-reads
-use Rattle.names.proofs.known.Reads as known-reads
 
 abbrev Inv-loop : tie.InvT-loop
 Inv-loop text at cells₀ top to₀ cells to = Naming text at to × (cells ≡ cells₀)

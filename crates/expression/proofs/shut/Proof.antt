@@ -5,9 +5,6 @@ use Rattle.expression.specs.PartLaws.{shut-wrong, closed-there, shut-the
 use borrow.Author.Needs.{needs}
 use Rattle.expression.proofs.shut.Statement.{statement}
 use Rattle.expression.proofs.shut.Tie as tie
-use Rattle.expression.proofs.shut.Reads as reads
-use Rattle.expression.proofs.shut.Lts as lts
-use Rattle.names.proofs.byte_at.Reads as byte-at-reads
 
 enum-known-inner : tie.Need-enum-known-inner
 enum-known-inner c = search needs

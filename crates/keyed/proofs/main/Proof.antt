@@ -1,15 +1,10 @@
 -- `keyed::main` ends: it counts the stored texts.
 -- What it prints no contract can say.
-use Prim.Native.Nat.{_≤_, _-_}
-use mathlib.Core.Path.{_≡_}
+use Prim.Native.Nat.{_-_}
 use native.Mathlib.Omega.{arith}
-use lib.ListN.{length}
 use borrow.Author.Needs.{needs}
 use Rattle.keyed.proofs.main.Statement.{statement}
 use Rattle.keyed.proofs.main.Tie as tie
-use Rattle.keyed.proofs.main.Reads as reads
-use Rattle.keyed.proofs.main.Lts as lts
-use Rattle.keyed.proofs.run_case.Reads as run-case-reads
 
 abbrev Inv-loop : tie.InvT-loop
 Inv-loop k₀ k = Unit

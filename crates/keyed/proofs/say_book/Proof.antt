@@ -8,10 +8,6 @@ use borrow.Author.Needs.{needs}
 use Rattle.keyed.proofs.say_book.Statement.{statement}
 use Rattle.keyed.proofs.say_book.Tie as tie
 use Rattle.keyed.proofs.say_book.Reads as reads
-use Rattle.keyed.proofs.say_book.Lts as lts
-use Rattle.io.proofs.print_hex.Reads as print-hex-reads
-use Rattle.keyed.proofs.say.Reads as say-reads
-use Rattle.keyed.proofs.wide.Reads as wide-reads
 
 abbrev Inv-loop : tie.InvT-loop
 Inv-loop book i₀ t5 i = (i ≤ length book) × (length t5 ≡ 1)

@@ -8,8 +8,6 @@ use borrow.Author.Needs.{needs}
 use Rattle.keyed.proofs.say_changed.Statement.{statement}
 use Rattle.keyed.proofs.say_changed.Tie as tie
 use Rattle.keyed.proofs.say_changed.Reads as reads
-use Rattle.keyed.proofs.say_changed.Lts as lts
-use Rattle.keyed.proofs.say.Reads as say-reads
 
 abbrev Inv-loop : tie.InvT-loop
 Inv-loop part i₀ t3 i = (i ≤ length part) × (length t3 ≡ 8)

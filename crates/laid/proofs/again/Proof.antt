@@ -2,14 +2,10 @@
 -- Assumes nothing.
 use Prim.Native.Nat.{_-_}
 use native.Mathlib.Omega.{arith}
-use mathlib.Core.Path.{refl}
 use borrow.Author.Needs.{needs}
 use Rattle.laid.specs.LaidLaws.{Redone, redone-none, redone-more, redone-all, again-over}
 use Rattle.laid.proofs.again.Statement.{statement}
 use Rattle.laid.proofs.again.Tie as tie
-use Rattle.laid.proofs.again.Reads as reads
-use Rattle.laid.proofs.again.Lts as lts
-use Rattle.laid.proofs.lay.Reads as lay-reads
 
 abbrev Inv-loop : tie.InvT-loop
 Inv-loop cells₀ start top t₀ i₀ cells t i = Redone cells₀ start top cells t i

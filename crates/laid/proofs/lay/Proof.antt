@@ -4,8 +4,6 @@ use borrow.Author.Needs.{needs}
 use Rattle.laid.specs.LaidLaws.{adds-room, adds-over}
 use Rattle.laid.proofs.lay.Statement.{statement}
 use Rattle.laid.proofs.lay.Tie as tie
-use Rattle.laid.proofs.lay.Reads as reads
-use Rattle.laid.proofs.lay.Lts as lts
 
 mul-cells : tie.Need-mul-cells
 mul-cells c = search needs

@@ -4,9 +4,6 @@ use Rattle.laid.specs.TableLaws.{range-first, range-next}
 use borrow.Author.Needs.{needs}
 use Rattle.laid.proofs.lay_range.Statement.{statement}
 use Rattle.laid.proofs.lay_range.Tie as tie
-use Rattle.laid.proofs.lay_range.Reads as reads
-use Rattle.laid.proofs.lay_range.Lts as lts
-use Rattle.laid.proofs.lay.Reads as lay-reads
 
 range-cell-requires : tie.Need-range-cell-requires
 range-cell-requires c κs = search needs

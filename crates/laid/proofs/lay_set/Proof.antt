@@ -1,6 +1,5 @@
 -- `laid::lay_set` meets its contract: the loop has laid the ranges from the set's first up to i.
 -- Assumes nothing.
-use borrow.Author.Needs.{needs}
 use mathlib.Core.Path.{refl}
 use native.Mathlib.Omega.{arith}
 use Prim.Native.Nat.{_-_, _≤_}
@@ -8,11 +7,6 @@ use Rattle.laid.specs.Laid.{Adds}
 use Rattle.laid.specs.TableLaws.{nodesOf, some, set-start, set-none, set-more, set-all}
 use Rattle.laid.proofs.lay_set.Statement.{statement}
 use Rattle.laid.proofs.lay_set.Tie as tie
-use Rattle.laid.proofs.lay_set.Reads as reads
-use Rattle.laid.proofs.lay_set.Lts as lts
-use Rattle.laid.proofs.lay_range.Reads as lay-range-reads
-use Rattle.laid.proofs.range_at.Reads as range-at-reads
-use Rattle.laid.proofs.start_of.Reads as start-of-reads
 
 abbrev Inv-loop : tie.InvT-loop
 Inv-loop cells₀ top k from end t₀ i₀ cells t i = (from ≤ i) × (i ≤ end) × (end ≤ 23) × Adds cells₀ top (nodesOf (some from i)) cells t

@@ -4,10 +4,6 @@ use Rattle.laid.specs.LaidLaws.{marked-star, marked-plus, marked-maybe}
 use borrow.Author.Needs.{needs}
 use Rattle.laid.proofs.mark.Statement.{statement}
 use Rattle.laid.proofs.mark.Tie as tie
-use Rattle.laid.proofs.mark.Reads as reads
-use Rattle.laid.proofs.mark.Lts as lts
-use Rattle.laid.proofs.again.Reads as again-reads
-use Rattle.laid.proofs.lay.Reads as lay-reads
 
 lay-requires : tie.Need-lay-requires
 lay-requires c κs = search needs

@@ -4,9 +4,6 @@ use Rattle.names.specs.ByteLaws.{starting-1, starting-2, starting-3, sta
 use borrow.Author.Needs.{needs}
 use Rattle.names.proofs.begins_atom.Statement.{statement}
 use Rattle.names.proofs.begins_atom.Tie as tie
-use Rattle.names.proofs.begins_atom.Reads as reads
-use Rattle.names.proofs.begins_atom.Lts as lts
-use Rattle.names.proofs.is_bare.Reads as is-bare-reads
 
 returns : tie.Need-returns
 returns c = starting-1 _ (c .if1 .taken)

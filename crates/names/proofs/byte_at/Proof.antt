@@ -4,8 +4,6 @@ use Rattle.names.specs.ByteLaws.{byte-inside, byte-past}
 use borrow.Author.Needs.{needs}
 use Rattle.names.proofs.byte_at.Statement.{statement}
 use Rattle.names.proofs.byte_at.Tie as tie
-use Rattle.names.proofs.byte_at.Reads as reads
-use Rattle.names.proofs.byte_at.Lts as lts
 
 shared-slice-read-result : tie.Need-shared-slice-read-result
 shared-slice-read-result c = search needs

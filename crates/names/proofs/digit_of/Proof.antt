@@ -5,8 +5,6 @@ use Rattle.names.specs.ByteLaws.{digit-1, digit-2, digit-3}
 use borrow.Author.Needs.{needs}
 use Rattle.names.proofs.digit_of.Statement.{statement}
 use Rattle.names.proofs.digit_of.Tie as tie
-use Rattle.names.proofs.digit_of.Reads as reads
-use Rattle.names.proofs.digit_of.Lts as lts
 
 returns : tie.Need-returns
 returns c = (digit-1 _ (c .if1 .taken), omega arith)

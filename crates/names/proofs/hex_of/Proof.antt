@@ -5,8 +5,6 @@ use Rattle.names.specs.ByteLaws.{hex-1, hex-2, hex-3, hex-4, hex-5, hex-
 use borrow.Author.Needs.{needs}
 use Rattle.names.proofs.hex_of.Statement.{statement}
 use Rattle.names.proofs.hex_of.Tie as tie
-use Rattle.names.proofs.hex_of.Reads as reads
-use Rattle.names.proofs.hex_of.Lts as lts
 
 returns : tie.Need-returns
 returns c = (hex-1 _ (c .if1 .taken), omega arith)

@@ -4,8 +4,6 @@ use native.Mathlib.Omega.{arith}
 use Rattle.names.specs.ByteLaws.{bare-1, bare-2, bare-3, bare-4, bare-5, bare-6, bare-7, bare-8, bare-9}
 use Rattle.names.proofs.is_bare.Statement.{statement}
 use Rattle.names.proofs.is_bare.Tie as tie
-use Rattle.names.proofs.is_bare.Reads as reads
-use Rattle.names.proofs.is_bare.Lts as lts
 
 returns : tie.Need-returns
 returns c = bare-1 _ (c .if1 .taken)

@@ -4,8 +4,6 @@ use mathlib.Core.Path.{refl}
 use Rattle.names.specs.ByteLaws.{marking-1, marking-2, marking-3}
 use Rattle.names.proofs.is_mark.Statement.{statement}
 use Rattle.names.proofs.is_mark.Tie as tie
-use Rattle.names.proofs.is_mark.Reads as reads
-use Rattle.names.proofs.is_mark.Lts as lts
 
 returns : tie.Need-returns
 returns c = marking-1 _ (c .if1 .taken)

@@ -11,9 +11,6 @@ use lib.Seq.{slice}
 use Rattle.names.specs.NameLaws.{known-hit, known-begun, known-miss, known-none}
 use Rattle.names.proofs.known.Statement.{statement}
 use Rattle.names.proofs.known.Tie as tie
-use Rattle.names.proofs.known.Reads as reads
-use Rattle.names.proofs.known.Lts as lts
-use Rattle.names.proofs.match_name.Reads as match-name-reads
 
 abbrev Inv-loop : tie.InvT-loop
 Inv-loop text from to k₀ k = (k ≤ 12) × (knownOf (slice from to text) sets ≡ knownOf (slice from to text) (drop k sets))

@@ -9,10 +9,6 @@ use lib.Seq.{slice}
 use Rattle.names.specs.NameLaws.{Agree, match-longer, match-differs, so-far-more, match-begun, match-whole}
 use Rattle.names.proofs.match_name.Statement.{statement}
 use Rattle.names.proofs.match_name.Tie as tie
-use Rattle.names.proofs.match_name.Reads as reads
-use Rattle.names.proofs.match_name.Lts as lts
-use Rattle.names.proofs.name_byte.Reads as name-byte-reads
-use Rattle.names.proofs.name_length.Reads as name-length-reads
 
 abbrev Inv-loop : tie.InvT-loop
 Inv-loop text from to k n m i₀ i = (i ≤ to - from) × Agree (slice from to text) (named (setAt k)) i

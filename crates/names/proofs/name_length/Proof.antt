@@ -4,8 +4,6 @@ use native.Mathlib.Omega.{arith}
 use Rattle.names.specs.NameLaws.{length-six, length-seven}
 use Rattle.names.proofs.name_length.Statement.{statement}
 use Rattle.names.proofs.name_length.Tie as tie
-use Rattle.names.proofs.name_length.Reads as reads
-use Rattle.names.proofs.name_length.Lts as lts
 
 returns : tie.Need-returns
 returns c = (length-seven _ (c .if1 .taken), omega arith)

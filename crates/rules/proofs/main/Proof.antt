@@ -4,13 +4,6 @@ use native.Mathlib.Omega.{arith}
 use borrow.Author.Needs.{needs}
 use Rattle.rules.proofs.main.Statement.{statement}
 use Rattle.rules.proofs.main.Tie as tie
-use Rattle.rules.proofs.main.Reads as reads
-use Rattle.rules.proofs.main.Lts as lts
-use Rattle.advice.proofs.rules_book.Reads as rules-book-reads
-use Rattle.programs.proofs.files.read_named.Reads as read-named-reads
-use Rattle.rules.proofs.save.Reads as save-reads
-use Rattle.rules.proofs.tell.Reads as tell-reads
-use Rattle.rules.proofs.tell_unsaved.Reads as tell-unsaved-reads
 
 slice-aggregate-read-named : tie.Need-slice-aggregate-read-named
 slice-aggregate-read-named c = search needs

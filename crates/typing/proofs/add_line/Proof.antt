@@ -8,11 +8,6 @@ use Rattle.typing.specs.SumLaws.{add-faulty, add-out, add-in}
 use borrow.Author.Needs.{needs}
 use Rattle.typing.proofs.add_line.Statement.{statement}
 use Rattle.typing.proofs.add_line.Tie as tie
-use Rattle.typing.proofs.add_line.Reads as reads
-use Rattle.typing.proofs.add_line.Lts as lts
-use Rattle.laid.proofs.writing.write_cells.Reads as write-cells-reads
-use Rattle.number.proofs.write_number.Reads as write-number-reads
-use Rattle.typing.proofs.out_of.Reads as out-of-reads
 
 returns : tie.Need-returns
 returns c = add-faulty _ _ _ _ _ (c .if1 .taken) (c .before .before .before .pre .0)

@@ -5,9 +5,6 @@ use Rattle.typing.specs.PassLaws.{colon-there, colon-read, colon-missing
 use borrow.Author.Needs.{needs}
 use Rattle.typing.proofs.colon.Statement.{statement}
 use Rattle.typing.proofs.colon.Tie as tie
-use Rattle.typing.proofs.colon.Reads as reads
-use Rattle.typing.proofs.colon.Lts as lts
-use Rattle.names.proofs.byte_at.Reads as byte-at-reads
 
 byte-at-requires : tie.Need-byte-at-requires
 byte-at-requires c κs = search needs

@@ -5,8 +5,6 @@ use Prim.Native.Nat.{_-_}
 use Rattle.typing.specs.SumLaws.{CopySoFar, copy-first, copy-next, copy-all}
 use Rattle.typing.proofs.copy.Statement.{statement}
 use Rattle.typing.proofs.copy.Tie as tie
-use Rattle.typing.proofs.copy.Reads as reads
-use Rattle.typing.proofs.copy.Lts as lts
 
 abbrev Inv-loop : tie.InvT-loop
 Inv-loop part count out₀ at i₀ out i = CopySoFar part out₀ at count out i

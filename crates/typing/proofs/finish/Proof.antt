@@ -7,11 +7,6 @@ use Rattle.typing.specs.SumLaws.{finish-out, finish-none, finish-book}
 use borrow.Author.Needs.{needs}
 use Rattle.typing.proofs.finish.Statement.{statement}
 use Rattle.typing.proofs.finish.Tie as tie
-use Rattle.typing.proofs.finish.Reads as reads
-use Rattle.typing.proofs.finish.Lts as lts
-use Rattle.number.proofs.write_number.Reads as write-number-reads
-use Rattle.typing.proofs.copy.Reads as copy-reads
-use Rattle.typing.proofs.line_start.Reads as line-start-reads
 
 line-start-requires : tie.Need-line-start-requires
 line-start-requires c κs = search needs

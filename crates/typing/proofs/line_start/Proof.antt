@@ -6,9 +6,6 @@ use lib.ListN.{length}
 use Rattle.typing.specs.SumLaws.{StartSoFar, start-first, start-found, start-next, start-ends}
 use Rattle.typing.proofs.line_start.Statement.{statement}
 use Rattle.typing.proofs.line_start.Tie as tie
-use Rattle.typing.proofs.line_start.Reads as reads
-use Rattle.typing.proofs.line_start.Lts as lts
-use Rattle.typing.proofs.lines_left.Reads as lines-left-reads
 
 abbrev Inv-loop : tie.InvT-loop
 Inv-loop text line left₀ p₀ left p = StartSoFar text line left p

@@ -6,8 +6,6 @@ use Rattle.typing.specs.Sums.LeftAfter.{newline, no-newline}
 use borrow.Author.Needs.{needs}
 use Rattle.typing.proofs.lines_left.Statement.{statement}
 use Rattle.typing.proofs.lines_left.Tie as tie
-use Rattle.typing.proofs.lines_left.Reads as reads
-use Rattle.typing.proofs.lines_left.Lts as lts
 
 sub-result : tie.Need-sub-result
 sub-result c = search needs

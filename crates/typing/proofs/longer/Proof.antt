@@ -1,12 +1,9 @@
 -- `typing::longer` meets its contract: within the limit, and past it.
 -- Assumes nothing.
-use native.Mathlib.Omega.{arith}
 use Rattle.typing.specs.PassLaws.{longer-within, longer-past}
 use borrow.Author.Needs.{needs}
 use Rattle.typing.proofs.longer.Statement.{statement}
 use Rattle.typing.proofs.longer.Tie as tie
-use Rattle.typing.proofs.longer.Reads as reads
-use Rattle.typing.proofs.longer.Lts as lts
 
 mul-n : tie.Need-mul-n
 mul-n c = search needs

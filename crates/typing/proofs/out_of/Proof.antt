@@ -1,13 +1,10 @@
 -- `typing::out_of` meets its contract: one law a return.
 -- Assumes nothing.
-use native.Mathlib.Omega.{arith}
 use mathlib.Core.Path.{refl}
 use Rattle.typing.specs.SumLaws.{out-rules, out-kind, out-nodes}
 use borrow.Author.Needs.{needs}
 use Rattle.typing.proofs.out_of.Statement.{statement}
 use Rattle.typing.proofs.out_of.Tie as tie
-use Rattle.typing.proofs.out_of.Reads as reads
-use Rattle.typing.proofs.out_of.Lts as lts
 
 returns : tie.Need-returns
 returns c = out-rules _ _ _ _ (c .if1 .taken)

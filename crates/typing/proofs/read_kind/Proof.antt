@@ -8,11 +8,6 @@ use Rattle.names.specs.ByteLaws.{byte-inside}
 use Rattle.typing.specs.PassLaws.{KindSoFar, so-far-small, kind-none, kind-zero, kind-first, kind-more, kind-stops, kind-ends}
 use Rattle.typing.proofs.read_kind.Statement.{statement}
 use Rattle.typing.proofs.read_kind.Tie as tie
-use Rattle.typing.proofs.read_kind.Reads as reads
-use Rattle.typing.proofs.read_kind.Lts as lts
-use Rattle.names.proofs.digit_of.Reads as digit-of-reads
-use Rattle.typing.proofs.colon.Reads as colon-reads
-use Rattle.typing.proofs.longer.Reads as longer-reads
 
 abbrev Inv-loop : tie.InvT-loop
 Inv-loop text at first kind₀ p₀ kind p = KindSoFar text at p kind

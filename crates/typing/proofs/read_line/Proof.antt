@@ -8,10 +8,6 @@ use Rattle.typing.specs.PassLaws.{kind-as, line-kind-wrong, from-inside,
 use borrow.Author.Needs.{needs}
 use Rattle.typing.proofs.read_line.Statement.{statement}
 use Rattle.typing.proofs.read_line.Tie as tie
-use Rattle.typing.proofs.read_line.Reads as reads
-use Rattle.typing.proofs.read_line.Lts as lts
-use Rattle.expression.proofs.choice.Reads as choice-reads
-use Rattle.typing.proofs.read_kind.Reads as read-kind-reads
 
 read-kind-requires : tie.Need-read-kind-requires
 read-kind-requires c κs = c .before .before .pre .0

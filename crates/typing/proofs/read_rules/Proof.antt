@@ -9,10 +9,6 @@ use Rattle.typing.specs.PassLaws.{line-as, line-same}
 use Rattle.typing.specs.SumLaws.{RulesSoFar, rules-first, line-kept, rules-next, rules-wrong, rules-all}
 use Rattle.typing.proofs.read_rules.Statement.{statement}
 use Rattle.typing.proofs.read_rules.Tie as tie
-use Rattle.typing.proofs.read_rules.Reads as reads
-use Rattle.typing.proofs.read_rules.Lts as lts
-use Rattle.typing.proofs.add_line.Reads as add-line-reads
-use Rattle.typing.proofs.read_line.Reads as read-line-reads
 
 abbrev Inv-loop : tie.InvT-loop
 Inv-loop text cells₀ book₀ sum₀ p₀ cells book sum p = RulesSoFar text p sum cells book

@@ -4,10 +4,6 @@ use Rattle.typing.specs.SumLaws.{rules-as, all-roomy, given-wrong, given
 use borrow.Author.Needs.{needs}
 use Rattle.typing.proofs.type_in.Statement.{statement}
 use Rattle.typing.proofs.type_in.Tie as tie
-use Rattle.typing.proofs.type_in.Reads as reads
-use Rattle.typing.proofs.type_in.Lts as lts
-use Rattle.typing.proofs.finish.Reads as finish-reads
-use Rattle.typing.proofs.read_rules.Reads as read-rules-reads
 
 read-rules-requires : tie.Need-read-rules-requires
 read-rules-requires c κs = (c .before .before .before .before .before .before .pre .cells-are, c .before .before .before .before .before .before .pre .book-is)

@@ -4,9 +4,6 @@ use Rattle.typing.specs.SumLaws.{types-room, types-given}
 use borrow.Author.Needs.{needs}
 use Rattle.typing.proofs.type_rules.Statement.{statement}
 use Rattle.typing.proofs.type_rules.Tie as tie
-use Rattle.typing.proofs.type_rules.Reads as reads
-use Rattle.typing.proofs.type_rules.Lts as lts
-use Rattle.typing.proofs.type_in.Reads as type-in-reads
 
 returns : tie.Need-returns
 returns c = types-room _ _ (c .if1 .taken)

@@ -6,9 +6,6 @@ use Rattle.laid.specs.ByteLaws.{width-most, code-width, cell-plain, cell
 use borrow.Author.Needs.{needs}
 use Rattle.laid.proofs.writing.write_cell.Statement.{statement}
 use Rattle.laid.proofs.writing.write_cell.Tie as tie
-use Rattle.laid.proofs.writing.write_cell.Reads as reads
-use Rattle.laid.proofs.writing.write_cell.Lts as lts
-use Rattle.number.proofs.write_number.Reads as write-number-reads
 
 cast-write-number : tie.Need-cast-write-number
 cast-write-number c = search needs

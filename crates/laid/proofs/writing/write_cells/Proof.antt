@@ -2,16 +2,10 @@
 -- Assumes nothing.
 use borrow.Author.Needs.{needs}
 use native.Mathlib.Omega.{arith}
-use Prim.Native.Nat.{ℕ, _-_, _≤_}
-use lib.ListN.{take}
-use Rattle.number.specs.Lists.{Writes}
-use Rattle.laid.specs.Bytes.{cellsBytes}
+use Prim.Native.Nat.{_-_}
 use Rattle.laid.specs.ByteLaws.{CellsSoFar, cells-first, cells-on, cells-all}
 use Rattle.laid.proofs.writing.write_cells.Statement.{statement}
 use Rattle.laid.proofs.writing.write_cells.Tie as tie
-use Rattle.laid.proofs.writing.write_cells.Reads as reads
-use Rattle.laid.proofs.writing.write_cells.Lts as lts
-use Rattle.laid.proofs.writing.write_cell.Reads as write-cell-reads
 
 abbrev Inv-loop : tie.InvT-loop
 Inv-loop cells count out₀ at p₀ i₀ out p i = CellsSoFar cells out₀ at count out p i
