@@ -7,7 +7,7 @@ use lib.Dec.{eqb, ltb}
 use lib.ListN.{length, take, drop, replicate}
 use Rattle.number.specs.declared.Refusal.{Refusal}
 use Rattle.number.specs.declared.Refusal.the-variants.{Short, Number, Range, Stack, Tail, Long, Pool, States, Runs, Loaded, Room, Pairs, Input, Typed}
-use Rattle.number.specs.Limits.{bytes, rulesFile}
+use Rattle.number.specs.Limits.{rules, kinds, nodes, bytes, rulesFile}
 use Rattle.number.specs.Refused.{Outcome, number, place}
 use Rattle.number.specs.Refused.Outcome.{gives, refuses}
 use Rattle.meaning.specs.Re.{Text}
@@ -39,6 +39,9 @@ lastStart start q (c ∷ text) = lastStart (cond (eqb c newline) (q + 1) start) 
 abbrev pub startAt : Text → ℕ → ℕ
 startAt text p = lastStart 0 0 (take p text)
 
+abbrev pub columnAt : Text → ℕ → ℕ
+columnAt text p = p - startAt text p + 1
+
 -- ---- the line as it is shown
 
 -- a byte that cannot be printed is shown as `?`
@@ -59,10 +62,10 @@ markLine before = replicate before space ++ (94 ∷ newline ∷ [])
 
 -- ---- the bytes that could stand at a place
 
--- an answer that says that the byte at p is wrong
+-- an answer that says that the byte at p is wrong: number and place are those of Typed there
 abbrev pub wrongAt : ℕ → Outcome (List ℕ) → Bool
 wrongAt p (gives book) = false
-wrongAt p (refuses r) = eqb (number r) 14 && eqb (place r) p
+wrongAt p (refuses r) = eqb (number r) (number (Typed p)) && eqb (place r) p
 
 -- c is not wrong behind these bytes; by the theorem the-bytes of Main: some rightly typed text begins with them and then c
 unfoldable pub couldStand : Text → ℕ → Bool
@@ -110,11 +113,12 @@ testedLine test = quoted "here could stand:" ++ (runNames (runs (kept test bytes
 
 -- ---- the whole text
 
-unfoldable pub lineWords : ℕ → List ℕ
-lineWords line = quoted "words.rules, line " ++ decimal line
+-- words, and behind them a number
+unfoldable pub phrase : List ℕ → ℕ → List ℕ
+phrase words n = words ++ decimal n
 
-unfoldable pub columnWords : ℕ → List ℕ
-columnWords column = quoted ", column " ++ decimal column
+unfoldable pub placeWords : ℕ → ℕ → List ℕ
+placeWords line column = phrase (quoted "words.rules, line ") line ++ phrase (quoted ", column ") column
 
 -- at the text's end, or inside it
 unfoldable pub faultWords : Bool → List ℕ
@@ -123,44 +127,66 @@ faultWords false = quoted ": no rule goes on with this byte.\n"
 
 unfoldable pub typedAdvice : Text → ℕ → List ℕ
 typedAdvice text p =
-    lineWords (lineAt text p) ++
-    (columnWords (p - startAt text p + 1) ++
+    placeWords (lineAt text p) (columnAt text p) ++
     (faultWords (eqb p (length text)) ++
     (shownLine (drop (startAt text p) text) ++
     (markLine (p - startAt text p) ++
-    testedLine (couldStand (take p text))))))
+    testedLine (couldStand (take p text)))))
+
+-- the limits that a line may have passed, with their numbers; the refusal does not tell which
+abbrev pub overRules : List ℕ
+overRules = phrase (quoted ": with this line there are more than ") rules
+
+abbrev pub overKinds : List ℕ
+overKinds = phrase (quoted " rules, or its kind is above ") kinds
+
+abbrev pub overNodes : List ℕ
+overNodes = phrase (quoted ", or the nodes are more than ") nodes
+
+abbrev pub inAll : List ℕ
+inAll = quoted " in all.\n"
 
 unfoldable pub tooMuch : List ℕ
-tooMuch =
-    quoted ": with this line there are more than 32 rules, " ++
-    (quoted "or its kind is above 16383, " ++
-    quoted "or the nodes are more than 512 in all.\n")
+tooMuch = overRules ++ (overKinds ++ (overNodes ++ inAll))
 
 unfoldable pub rangeAdvice : Text → ℕ → List ℕ
-rangeAdvice text p = lineWords (lineAt text p) ++ (tooMuch ++ shownLine (drop (startAt text p) text))
+rangeAdvice text p = placeWords (lineAt text p) (columnAt text p) ++ (tooMuch ++ shownLine (drop (startAt text p) text))
 
 unfoldable pub noRule : List ℕ
 noRule = quoted "words.rules has no rule.\n"
 
-unfoldable pub unread : List ℕ
-unread = quoted "words.rules cannot be read, or has more than 32768 bytes.\n"
+abbrev pub overFile : List ℕ
+overFile = phrase (quoted "words.rules cannot be read, or has more than ") rulesFile
 
--- what is told of each refusal; those that typing never answers, and places outside the text, are told nothing
+abbrev pub inBytes : List ℕ
+inBytes = quoted " bytes.\n"
+
+unfoldable pub unread : List ℕ
+unread = overFile ++ inBytes
+
+unfoldable pub unsaved : List ℕ
+unsaved = quoted "words.book cannot be written.\n"
+
+-- what is told of each refusal of a text that was read; those that typing never answers, and places outside the text, are told nothing
+unfoldable pub adviceOn : Text → Refusal → List ℕ
+adviceOn text (Typed p) = cond (ltb (length text) p) [] (typedAdvice text p)
+adviceOn text (Range p) = cond (eqb (length text) 0) noRule (cond (ltb (length text) p) [] (rangeAdvice text p))
+adviceOn text Input = []
+adviceOn text (Short p) = []
+adviceOn text (Number p) = []
+adviceOn text (Stack p) = []
+adviceOn text (Tail p) = []
+adviceOn text (Long p) = []
+adviceOn text (Pool p) = []
+adviceOn text (States p) = []
+adviceOn text (Runs p) = []
+adviceOn text Loaded = []
+adviceOn text Room = []
+adviceOn text (Pairs p) = []
+
+-- more bytes than the file may have stand for a file that is missing or too long
 unfoldable pub adviceOf : Text → Refusal → List ℕ
-adviceOf text (Typed p) = cond (ltb (length text) p) [] (typedAdvice text p)
-adviceOf text (Range p) = cond (eqb (length text) 0) noRule (cond (ltb (length text) p) [] (rangeAdvice text p))
-adviceOf text Input = unread
-adviceOf text (Short p) = []
-adviceOf text (Number p) = []
-adviceOf text (Stack p) = []
-adviceOf text (Tail p) = []
-adviceOf text (Long p) = []
-adviceOf text (Pool p) = []
-adviceOf text (States p) = []
-adviceOf text (Runs p) = []
-adviceOf text Loaded = []
-adviceOf text Room = []
-adviceOf text (Pairs p) = []
+adviceOf text r = cond (ltb rulesFile (length text)) unread (adviceOn text r)
 
 -- the room that any advice is given: the line and the mark below it, sixteen bytes for each byte that could stand, and the sentences
 abbrev pub adviceRoom : ℕ

@@ -8,13 +8,13 @@ use lib.Dec.{eqb}
 use lib.ListN.{length, take, drop}
 use borrow.Author.Tests.{eq-eqb, ne-eqb, lt-ltb, le-ltb}
 use Rattle.number.specs.declared.Refusal.{Refusal}
-use Rattle.number.specs.declared.Refusal.the-variants.{Range, Typed, Input}
+use Rattle.number.specs.declared.Refusal.the-variants.{Range, Typed}
 use Rattle.number.specs.Limits.{rulesFile}
 use Rattle.number.specs.Lists.{Writes, writes-none}
 use Rattle.meaning.specs.Re.{Text}
 use Rattle.typed.specs.Quoted.{quoted}
-use Rattle.advice.specs.Advice.{newlines, lineAt, lastStart, startAt, shownLine, markLine, couldStand, testedLine}
-use Rattle.advice.specs.Advice.{lineWords, columnWords, faultWords, tooMuch, typedAdvice, rangeAdvice, noRule, unread, adviceOf, adviceRoom}
+use Rattle.advice.specs.Advice.{newlines, lineAt, lastStart, startAt, columnAt, shownLine, markLine, couldStand, testedLine}
+use Rattle.advice.specs.Advice.{placeWords, faultWords, tooMuch, typedAdvice, rangeAdvice, noRule, unread, adviceOn, adviceOf, adviceRoom}
 use Rattle.advice.specs.Promises.{SpotOf}
 use Rattle.advice.specs.Left.{Left, left-all, left-as, left-room, left-step}
 use Rattle.advice.specs.WriteLaws.{writes-as}
@@ -43,39 +43,27 @@ shownOn text p start = shownLine (drop start text) ++ markOn text p start
 unfoldable pub faultOn : Text → ℕ → ℕ → List ℕ
 faultOn text p start = faultWords (eqb p (length text)) ++ shownOn text p start
 
-unfoldable pub columnOn : Text → ℕ → ℕ → List ℕ
-columnOn text p start = columnWords (p - start + 1) ++ faultOn text p start
-
-unfoldable pub lineOn : Text → ℕ → ℕ → ℕ → List ℕ
-lineOn text p line start = lineWords line ++ columnOn text p start
+unfoldable pub placeOn : Text → ℕ → ℕ → ℕ → List ℕ
+placeOn text p line start = placeWords line (p - start + 1) ++ faultOn text p start
 
 pub typed-all : (text : Text) (p line start : ℕ) (s : List ℕ) (at : ℕ) → SpotOf (take (p - 0) (drop 0 text)) line start
-    → at + length (typedAdvice text p) ≤ length s → Left (typedAdvice text p) (lineOn text p line start) s s at at
-unfolding typedAdvice lineOn columnOn faultOn shownOn markOn
+    → at + length (typedAdvice text p) ≤ length s → Left (typedAdvice text p) (placeOn text p line start) s s at at
+unfolding typedAdvice placeOn faultOn shownOn markOn
 typed-all text p line start s at f h =
     left-as
-    (ap (λ l. lineOn text p l (startAt text p)) (line-found text p line start f) ∙ ap (lineOn text p line) (start-found text p line start f))
+    (ap (λ l. placeOn text p l (startAt text p)) (line-found text p line start f) ∙ ap (placeOn text p line) (start-found text p line start f))
     (left-all (typedAdvice text p) s at h)
 
 -- each part has room, and is followed by the next
 module _ (text : Text) (p start : ℕ) {whole s t : List ℕ} {at₀ at : ℕ} where
-  pub line-room : (line : ℕ) → Left whole (lineOn text p line start) s t at₀ at → at + length (lineWords line) ≤ length t
-  unfolding lineOn
-  line-room line l = left-room (lineWords line) (columnOn text p start) l
+  pub place-room : (line : ℕ) → Left whole (placeOn text p line start) s t at₀ at → at + length (placeWords line (p - start + 1)) ≤ length t
+  unfolding placeOn
+  place-room line l = left-room (placeWords line (p - start + 1)) (faultOn text p start) l
 
-  pub line-on : (line : ℕ) → {u : List ℕ} {mid : ℕ} → Left whole (lineOn text p line start) s t at₀ at → Writes (lineWords line) t u at mid
-      → Left whole (columnOn text p start) s u at₀ mid
-  unfolding lineOn
-  line-on line l a = left-step (lineWords line) (columnOn text p start) l a
-
-  pub column-room : Left whole (columnOn text p start) s t at₀ at → at + length (columnWords (p - start + 1)) ≤ length t
-  unfolding columnOn
-  column-room l = left-room (columnWords (p - start + 1)) (faultOn text p start) l
-
-  pub column-on : {u : List ℕ} {mid : ℕ} → Left whole (columnOn text p start) s t at₀ at → Writes (columnWords (p - start + 1)) t u at mid
-      → Left whole (faultOn text p start) s u at₀ mid
-  unfolding columnOn
-  column-on l a = left-step (columnWords (p - start + 1)) (faultOn text p start) l a
+  pub place-on : (line : ℕ) → {u : List ℕ} {mid : ℕ} → Left whole (placeOn text p line start) s t at₀ at
+      → Writes (placeWords line (p - start + 1)) t u at mid → Left whole (faultOn text p start) s u at₀ mid
+  unfolding placeOn
+  place-on line l a = left-step (placeWords line (p - start + 1)) (faultOn text p start) l a
 
   pub fault-room : Left whole (faultOn text p start) s t at₀ at → at + length (faultWords (eqb p (length text))) ≤ length t
   unfolding faultOn
@@ -106,44 +94,48 @@ module _ (text : Text) (p start : ℕ) {whole s t : List ℕ} {at₀ at : ℕ} w
 
 pub range-all : (text : Text) (p line start : ℕ) (s : List ℕ) (at : ℕ) → SpotOf (take (p - 0) (drop 0 text)) line start
     → at + length (rangeAdvice text p) ≤ length s
-    → Left (rangeAdvice text p) (lineWords line ++ (tooMuch ++ shownLine (drop start text))) s s at at
+    → Left (rangeAdvice text p) (placeWords line (p - start + 1) ++ (tooMuch ++ shownLine (drop start text))) s s at at
 unfolding rangeAdvice
 range-all text p line start s at f h =
     left-as
-    (ap (λ l. lineWords l ++ (tooMuch ++ shownLine (drop (startAt text p) text))) (line-found text p line start f) ∙
-    ap (λ k. lineWords line ++ (tooMuch ++ shownLine (drop k text))) (start-found text p line start f))
+    (ap (λ l. placeWords l (columnAt text p) ++ (tooMuch ++ shownLine (drop (startAt text p) text))) (line-found text p line start f) ∙
+    ap (λ k. placeWords line (p - k + 1) ++ (tooMuch ++ shownLine (drop k text))) (start-found text p line start f))
     (left-all (rangeAdvice text p) s at h)
 
 -- ---- the cases
 
-pub typed-outside : (text : Text) (p : ℕ) → length text < p → [] ≡ adviceOf text (Typed p)
-unfolding adviceOf
+pub typed-outside : (text : Text) (p : ℕ) → length text < p → [] ≡ adviceOn text (Typed p)
+unfolding adviceOn
 typed-outside text p h = sym (rw (lt-ltb (length text) p h) refl)
 
-pub typed-inside : (text : Text) (p : ℕ) → p ≤ length text → typedAdvice text p ≡ adviceOf text (Typed p)
-unfolding adviceOf
+pub typed-inside : (text : Text) (p : ℕ) → p ≤ length text → typedAdvice text p ≡ adviceOn text (Typed p)
+unfolding adviceOn
 typed-inside text p h = sym (rw (le-ltb (length text) p h) refl)
 
-pub range-none : {w : List ℕ} (text : Text) (p : ℕ) → length text ≡ 0 → w ≡ quoted "words.rules has no rule.\n" → w ≡ adviceOf text (Range p)
-unfolding adviceOf noRule
+pub range-none : {w : List ℕ} (text : Text) (p : ℕ) → length text ≡ 0 → w ≡ quoted "words.rules has no rule.\n" → w ≡ adviceOn text (Range p)
+unfolding adviceOn noRule
 range-none text p h e = e ∙ sym (rw (eq-eqb (length text) 0 h) refl)
 
-pub range-outside : (text : Text) (p : ℕ) → (length text ≡ 0 → ⊥) → length text < p → [] ≡ adviceOf text (Range p)
-unfolding adviceOf
+pub range-outside : (text : Text) (p : ℕ) → (length text ≡ 0 → ⊥) → length text < p → [] ≡ adviceOn text (Range p)
+unfolding adviceOn
 range-outside text p n h = sym (rw (ne-eqb (length text) 0 n, lt-ltb (length text) p h) refl)
 
-pub range-inside : (text : Text) (p : ℕ) → (length text ≡ 0 → ⊥) → p ≤ length text → rangeAdvice text p ≡ adviceOf text (Range p)
-unfolding adviceOf
+pub range-inside : (text : Text) (p : ℕ) → (length text ≡ 0 → ⊥) → p ≤ length text → rangeAdvice text p ≡ adviceOn text (Range p)
+unfolding adviceOn
 range-inside text p n h = sym (rw (ne-eqb (length text) 0 n, le-ltb (length text) p h) refl)
-
-pub input-all : (text : Text) → unread ≡ adviceOf text Input
-unfolding adviceOf
-input-all text = refl
 
 pub nothing-told : {w : List ℕ} (s : List ℕ) → w ≡ [] → Writes w s s 0 0
 nothing-told s e = writes-as (sym e) (writes-none s 0)
 
+pub unread-told : (text : Text) (r : Refusal) → rulesFile < length text → unread ≡ adviceOf text r
+unfolding adviceOf
+unread-told text r h = sym (rw (lt-ltb rulesFile (length text) h) refl)
+
+pub read-told : (text : Text) (r : Refusal) → length text ≤ rulesFile → adviceOn text r ≡ adviceOf text r
+unfolding adviceOf
+read-told text r h = sym (rw (le-ltb rulesFile (length text) h) refl)
+
 -- the advice fits, and so does its end
-pub advised : (text : Text) (r : Refusal) {s t : List ℕ} {end : ℕ} → length text ≤ rulesFile → Writes (adviceOf text r) s t 0 end
+pub advised : (text : Text) (r : Refusal) {w s t : List ℕ} {end : ℕ} → w ≡ adviceOf text r → Writes w s t 0 end
     → Writes (adviceOf text r) s t 0 end × (end ≤ adviceRoom)
-advised text r h a = (a, omega (arith, a .place, advice-room text r h))
+advised text r e a = (writes-as e a, omega (arith, writes-as e a .place, advice-room text r))

@@ -1,4 +1,4 @@
--- What people are told of a refusal of words.rules. To be read: Advice, which says it; Sample, which shows it for five texts; Main, that it is right.
+-- What program rules makes of words.rules, and what people are told of a refusal. To be read: Print and Advice, which say it; Sample, which shows it; Main, that it is right.
 -- Promises and the files of laws are for the code: what its functions promise inside, and why they keep it.
 pub mod Advice
 pub mod Sample

@@ -1,5 +1,5 @@
--- What the advice tells is right: the line starts where it says, and the bytes that it names are exactly those that could stand.
--- To believe it, read only Advice, and what a rightly typed text is in the crate typed.
+-- What the advice tells is right: each refusal has its own, the line starts where it says, and the bytes that it names are exactly those that could stand.
+-- To believe it, read only Advice and Print, and what a rightly typed text is in the crate typed.
 use Prim.Native.Nat.{ℕ, suc, _+_, _-_, _≤_, _<_}
 use native.Mathlib.Omega.{arith}
 use native.Mathlib.Decide.{decLt}
@@ -10,21 +10,28 @@ use mathlib.Core.Logic.{_↔_, _⊎_, inl, inr}
 use lib.Dec.{eqb}
 use lib.ListN.{length, take, drop, getD, length-append, take-append-drop}
 use lib.Seq.{take-all, take-append-le, take-append-seam, getD-take, getD-append-seam}
-use borrow.Author.Tests.{eqb-true, eqb-false, not-true}
-use Rattle.number.specs.declared.Refusal.the-variants.{Typed}
+use borrow.Author.Tests.{eqb-true, eqb-false, not-true, lt-ltb, le-ltb}
+use Rattle.number.specs.declared.Refusal.{Refusal}
+use Rattle.number.specs.declared.Refusal.the-variants.{Range, Input, Typed}
+use Rattle.number.specs.Limits.{rulesFile}
 use Rattle.number.specs.Refused.{Outcome}
-use Rattle.number.specs.Refused.Outcome.{refuses}
+use Rattle.number.specs.Refused.Outcome.{gives, refuses}
 use Rattle.meaning.specs.Re.{Text}
-use Rattle.typed.specs.Lines.{Line, RightlyTyped, WrongAt}
+use Rattle.typed.specs.Lines.{Line, SpellsLine, SpellsAll, RightlyTyped, WrongAt}
+use Rattle.typed.specs.Lines.SpellsLine.{line}
+use Rattle.typed.specs.Lines.SpellsAll.{no-line as none-spelled, one-more}
 use Rattle.typed.specs.Scan.{Reading}
 use Rattle.typed.specs.Scan.Reading.{typed, wrong}
 use Rattle.typed.specs.LineReader.{readLines}
 use Rattle.typed.specs.Calls.{bookBytes}
-use Rattle.typed.specs.Bought.{OneOf}
+use Rattle.typed.specs.Bought.{FirstOut, OutOfRange, OneOf}
+use Rattle.typed.specs.Bought.OutOfRange.{no-line, at-line}
 use Rattle.typed.specs.Bought.OneOf.{a-book, out-of-range, wrongly-typed}
 use Rattle.typed.specs.AnswerLaws.{when-wrong}
-use Rattle.typed.specs.Main.{the-typing, the-wrong-byte, the-answers}
-use Rattle.advice.specs.Advice.{newline, lastStart, startAt, wrongAt, couldStand}
+use Rattle.typed.specs.Main.{the-typing, the-wrong-byte, the-range, the-answers}
+use Rattle.advice.specs.Advice.{newline, lastStart, startAt, columnAt, wrongAt, couldStand, typedAdvice, rangeAdvice, noRule, unread, adviceOf}
+use Rattle.advice.specs.Print.{rulesBytes}
+use Rattle.advice.specs.AdviceLaws.{typed-inside, range-none, range-inside, unread-told, read-told}
 
 -- ---- the bytes that could stand
 
@@ -155,3 +162,103 @@ starts u (c ∷ t) start s = by-byte (eqb c newline) refl (λ next o. starts (u 
 
 pub the-start : (text : Text) (p : ℕ) → StartOfLine (take p text) (startAt text p)
 the-start text p = starts [] (take p text) 0 (record { inside = omega arith; opens = inl refl; unbroken = λ i l m z. absurd (omega arith) })
+
+-- ---- each refusal is told
+
+-- what is told, by what is refused; a line out of range is told by its first column
+pub data Told (text : Text) : Refusal → List ℕ → Type 0 where
+  not-read : rulesFile < length text → Told text Input unread
+  wrong-byte : {p : ℕ} → WrongAt text p → Told text (Typed p) (typedAdvice text p)
+  no-rule : text ≡ [] → Told text (Range 0) noRule
+  first-out : {p : ℕ} → FirstOut text p → columnAt text p ≡ 1 → Told text (Range p) (rangeAdvice text p)
+
+-- the next line starts behind a newline
+behind-newline : (start q : ℕ) (u : Text) → lastStart start q (u ++ (newline ∷ [])) ≡ q + length u + 1
+unfolding lastStart
+behind-newline start q [] = omega arith
+behind-newline start q (c ∷ u) = behind-newline (cond (eqb c newline) (q + 1) start) (q + 1) u ∙ omega arith
+
+-- lines end in a newline, so that what follows them starts a line
+next-line : {w : Text} {ls : List Line} → SpellsAll w ls → lastStart 0 0 w ≡ length w
+unfolding lastStart
+next-line none-spelled = refl
+next-line (one-more {v = front} s (line {v = kind} {w = w} k e)) =
+    let u : Text = front ++ (kind ++ (58 ∷ w)) in
+    let whole : front ++ (kind ++ (58 ∷ (w ++ (newline ∷ [])))) ≡ u ++ (newline ∷ []) =
+    ap (λ x. front ++ x) (sym (append-assoc kind (58 ∷ w) (newline ∷ []))) ∙ sym (append-assoc front (kind ++ (58 ∷ w)) (newline ∷ [])) in
+    omega (arith, ap (lastStart 0 0) whole, behind-newline 0 0 u, ap length whole, length-append u (newline ∷ []))
+
+some-line : {w : Text} {l : Line} → SpellsLine w l → 1 ≤ length w
+some-line (line {v = kind} {w = w} k e) = omega (arith, length-append kind (58 ∷ (w ++ (newline ∷ []))))
+
+module _ (text : Text) (p : ℕ) (f : FirstOut text p) where
+  long-enough : p + 1 ≤ length text
+  long-enough =
+      omega (
+        arith,
+        ap length (f .parts),
+        length-append (f .front) (f .own ++ f .rest),
+        length-append (f .own) (f .rest),
+        some-line (f .itself),
+        f .place,
+      )
+
+  front-taken : take p text ≡ f .front
+  front-taken =
+      ap (λ w. take p w) (f .parts) ∙ ap (λ n. take n (f .front ++ (f .own ++ f .rest))) (f .place) ∙
+      take-append-seam (f .front) (f .own ++ f .rest)
+
+  first-column : columnAt text p ≡ 1
+  first-column =
+      let start : startAt text p ≡ length (f .front) = ap (lastStart 0 0) front-taken ∙ next-line (f .spelled) in
+      omega (arith, start, f .place)
+
+told-as : {text : Text} {r : Refusal} {q : Refusal} → q ≡ r → Told text q (adviceOf text q) → Told text r (adviceOf text r)
+told-as {text} e t = subst (λ x. Told text x (adviceOf text x)) e t
+
+module _ (text : Text) (r : Refusal) where
+  told-unread : rulesFile < length text → rulesBytes text ≡ refuses r → Told text r (adviceOf text r)
+  unfolding rulesBytes
+  told-unread h e =
+      let z : refuses Input ≡ rulesBytes text = sym (rw (lt-ltb rulesFile (length text) h) refl) in
+      let same : refuses Input ≡ refuses r = z ∙ e in
+      let q : Input ≡ r = cc in
+      told-as q (subst (Told text Input) (unread-told text Input h) (not-read h))
+
+  told-read : length text ≤ rulesFile → bookBytes text ≡ refuses r → Told text r (adviceOf text r)
+  unfolding noRule
+  told-read h e = by-answer (the-answers text) refl
+    where
+      typed-told : (p : ℕ) → WrongAt text p → Told text (Typed p) (adviceOf text (Typed p))
+      typed-told p a =
+          subst (Told text (Typed p)) (typed-inside text p (a .inside) ∙ read-told text (Typed p) h) (wrong-byte a)
+
+      range-told : (p : ℕ) → OutOfRange text p → Told text (Range p) (adviceOf text (Range p))
+      range-told p (no-line t) =
+          subst (Told text (Range 0)) (range-none text 0 (ap length t) refl ∙ read-told text (Range 0) h) (no-rule t)
+      range-told p (at-line f) =
+          let l = long-enough text p f in
+          subst (Told text (Range p)) (range-inside text p (λ z. omega arith) (omega arith) ∙ read-told text (Range p) h)
+          (first-out f (first-column text p f))
+
+      by-answer : {x : Outcome (List ℕ)} → OneOf x → bookBytes text ≡ x → Told text r (adviceOf text r)
+      by-answer (a-book b) f = let z : gives b ≡ refuses r = sym f ∙ e in absurd (let z : _≡_ {A = ℕ} 0 1 = cc in omega arith)
+      by-answer (out-of-range p) f =
+          let z : _≡_ {A = Outcome (List ℕ)} (refuses (Range p)) (refuses r) = sym f ∙ e in
+          let same : Range p ≡ r = cc in
+          told-as same (range-told p (the-range text p .0 f))
+      by-answer (wrongly-typed p) f =
+          let z : _≡_ {A = Outcome (List ℕ)} (refuses (Typed p)) (refuses r) = sym f ∙ e in
+          let same : Typed p ≡ r = cc in
+          told-as same (typed-told p (the-wrong-byte text p .0 f))
+
+-- whatever program rules refuses, people are told by the text that belongs to it
+pub the-telling : (text : Text) (r : Refusal) → rulesBytes text ≡ refuses r → Told text r (adviceOf text r)
+unfolding rulesBytes
+the-telling text r e =
+    elim (decLt rulesFile (length text)) [
+      | yes h ↦ told-unread text r h e
+      | no n ↦
+          let fits : length text ≤ rulesFile = omega arith in
+          told-read text r fits (rw (le-ltb rulesFile (length text) fits) at e)
+    ]

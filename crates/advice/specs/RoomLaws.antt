@@ -11,15 +11,15 @@ use lib.Seq.{length-take-le}
 use borrow.Author.Tests.{ltb-false}
 use Rattle.number.specs.declared.Refusal.{Refusal}
 use Rattle.number.specs.declared.Refusal.the-variants.{Short, Number, Range, Stack, Tail, Long, Pool, States, Runs, Loaded, Room, Pairs, Input, Typed}
-use Rattle.number.specs.Limits.{bytes, rulesFile}
+use Rattle.number.specs.Limits.{rules, kinds, nodes, bytes, rulesFile}
 use Rattle.number.specs.Branch.{by-cond}
 use Rattle.meaning.specs.Re.{Text}
 use Rattle.lines.specs.Digits.{decimal}
 use Rattle.lines.specs.DigitLaws.{decimal-most}
 use Rattle.typed.specs.Quoted.{quoted}
-use Rattle.advice.specs.Advice.{newline, space, newlines, lineAt, startAt, printed, shown, shownLine, markLine, couldStand}
+use Rattle.advice.specs.Advice.{newline, space, newlines, lineAt, startAt, columnAt, printed, shown, shownLine, markLine, couldStand}
 use Rattle.advice.specs.Advice.{kept, Run, neighbours, joined, runs, byteName, runName, runNames, testedLine}
-use Rattle.advice.specs.Advice.{lineWords, columnWords, faultWords, tooMuch, typedAdvice, rangeAdvice, noRule, unread, adviceOf, adviceRoom}
+use Rattle.advice.specs.Advice.{phrase, placeWords, faultWords, overRules, overKinds, overNodes, inAll, tooMuch, overFile, inBytes, typedAdvice, rangeAdvice, noRule, unread, adviceOn, adviceOf, adviceRoom}
 
 -- ---- lines
 
@@ -109,22 +109,40 @@ tested-most test =
 
 -- ---- sentences
 
-line-words-most : (line : ℕ) → line < 10 ^ 6 → length (lineWords line) ≤ 24
-unfolding lineWords quoted
-line-words-most line h = omega (arith, length-append (quoted "words.rules, line ") (decimal line), decimal-most 5 line h)
+phrase-most : (words : List ℕ) (n : ℕ) → n < 10 ^ 6 → length (phrase words n) ≤ length words + 6
+unfolding phrase
+phrase-most words n h = omega (arith, length-append words (decimal n), decimal-most 5 n h)
 
-column-words-most : (column : ℕ) → column < 10 ^ 6 → length (columnWords column) ≤ 15
-unfolding columnWords quoted
-column-words-most column h = omega (arith, length-append (quoted ", column ") (decimal column), decimal-most 5 column h)
+place-most : (line column : ℕ) → line < 10 ^ 6 → column < 10 ^ 6 → length (placeWords line column) ≤ 39
+unfolding placeWords quoted
+place-most line column h g =
+    let l : List ℕ = phrase (quoted "words.rules, line ") line in
+    let c : List ℕ = phrase (quoted ", column ") column in
+    omega (arith, length-append l c, phrase-most (quoted "words.rules, line ") line h, phrase-most (quoted ", column ") column g)
 
 fault-most : (b : Bool) → length (faultWords b) ≤ 45
 unfolding faultWords quoted
 fault-most true = omega arith
 fault-most false = omega arith
 
-too-much-most : length tooMuch ≤ 120
+too-much-most : length tooMuch ≤ 130
 unfolding tooMuch quoted
-too-much-most = omega arith
+too-much-most =
+    let r : length overRules ≤ 43 = phrase-most _ rules (omega arith) in
+    let k : length overKinds ≤ 35 = phrase-most _ kinds (omega arith) in
+    let n : length overNodes ≤ 35 = phrase-most _ nodes (omega arith) in
+    omega (
+      arith,
+      length-append overRules (overKinds ++ (overNodes ++ inAll)),
+      length-append overKinds (overNodes ++ inAll),
+      length-append overNodes inAll,
+    )
+
+pub unread-most : length unread ≤ 60
+unfolding unread quoted
+unread-most =
+    let f : length overFile ≤ 51 = phrase-most _ rulesFile (omega arith) in
+    omega (arith, length-append overFile inBytes)
 
 -- ---- the whole
 
@@ -135,16 +153,13 @@ typed-room text p h g =
     let mark : List ℕ = markLine (p - startAt text p) in
     let line : List ℕ = shownLine (drop (startAt text p) text) in
     let fault : List ℕ = faultWords (eqb p (length text)) in
-    let column : List ℕ = columnWords (p - startAt text p + 1) in
     omega (
       arith,
-      length-append (lineWords (lineAt text p)) (column ++ (fault ++ (line ++ (mark ++ could)))),
-      length-append column (fault ++ (line ++ (mark ++ could))),
+      length-append (placeWords (lineAt text p) (columnAt text p)) (fault ++ (line ++ (mark ++ could))),
       length-append fault (line ++ (mark ++ could)),
       length-append line (mark ++ could),
       length-append mark could,
-      line-words-most (lineAt text p) (omega (arith, line-most text p h g)),
-      column-words-most (p - startAt text p + 1) (omega arith),
+      place-most (lineAt text p) (columnAt text p) (omega (arith, line-most text p h g)) (omega arith),
       fault-most (eqb p (length text)),
       shown-line-most text (startAt text p),
       mark-most (p - startAt text p),
@@ -156,9 +171,9 @@ unfolding rangeAdvice
 range-room text p h g =
     omega (
       arith,
-      length-append (lineWords (lineAt text p)) (tooMuch ++ shownLine (drop (startAt text p) text)),
+      length-append (placeWords (lineAt text p) (columnAt text p)) (tooMuch ++ shownLine (drop (startAt text p) text)),
       length-append tooMuch (shownLine (drop (startAt text p) text)),
-      line-words-most (lineAt text p) (omega (arith, line-most text p h g)),
+      place-most (lineAt text p) (columnAt text p) (omega (arith, line-most text p h g)) (omega arith),
       too-much-most,
       shown-line-most text (startAt text p),
     )
@@ -169,23 +184,29 @@ Fits w = length w ≤ adviceRoom
 none-fits : Fits []
 none-fits = omega arith
 
-pub advice-room : (text : Text) (r : Refusal) → length text ≤ rulesFile → length (adviceOf text r) ≤ adviceRoom
-unfolding adviceOf noRule unread quoted
-advice-room text (Typed p) h =
+read-room : (text : Text) (r : Refusal) → length text ≤ rulesFile → length (adviceOn text r) ≤ adviceRoom
+unfolding adviceOn noRule quoted
+read-room text (Typed p) h =
     by-cond Fits (ltb (length text) p) {x = []} {y = typedAdvice text p} (λ e. none-fits)
     (λ e. typed-room text p (ltb-false (length text) p e) h)
-advice-room text (Range p) h =
+read-room text (Range p) h =
     by-cond Fits (eqb (length text) 0) {x = noRule} {y = cond (ltb (length text) p) [] (rangeAdvice text p)} (λ e. omega arith)
     (λ e. by-cond Fits (ltb (length text) p) {x = []} {y = rangeAdvice text p} (λ f. none-fits) (λ f. range-room text p (ltb-false (length text) p f) h))
-advice-room text Input h = omega arith
-advice-room text (Short p) h = none-fits
-advice-room text (Number p) h = none-fits
-advice-room text (Stack p) h = none-fits
-advice-room text (Tail p) h = none-fits
-advice-room text (Long p) h = none-fits
-advice-room text (Pool p) h = none-fits
-advice-room text (States p) h = none-fits
-advice-room text (Runs p) h = none-fits
-advice-room text Loaded h = none-fits
-advice-room text Room h = none-fits
-advice-room text (Pairs p) h = none-fits
+read-room text Input h = none-fits
+read-room text (Short p) h = none-fits
+read-room text (Number p) h = none-fits
+read-room text (Stack p) h = none-fits
+read-room text (Tail p) h = none-fits
+read-room text (Long p) h = none-fits
+read-room text (Pool p) h = none-fits
+read-room text (States p) h = none-fits
+read-room text (Runs p) h = none-fits
+read-room text Loaded h = none-fits
+read-room text Room h = none-fits
+read-room text (Pairs p) h = none-fits
+
+pub advice-room : (text : Text) (r : Refusal) → length (adviceOf text r) ≤ adviceRoom
+unfolding adviceOf
+advice-room text r =
+    by-cond Fits (ltb rulesFile (length text)) {x = unread} {y = adviceOn text r} (λ e. omega (arith, unread-most))
+    (λ e. read-room text r (ltb-false rulesFile (length text) e))

@@ -1,13 +1,17 @@
--- Advice on five texts, as people see it: a name that no set has, a text that ends too early, one that starts wrongly, no rule, and too large a kind.
+-- Advice on five texts, as people see it: a name that no set has, a text that ends too early, one that starts wrongly, no rule, and too large a kind; and on a file that is not read.
 -- The checker computes each from the definitions, byte by byte, so a definition that says something else is refused here.
+use Prim.Native.Nat.{_<_}
 use Prim.Native.String.{String, _++_}
-use mathlib.Core.Path.{_≡_}
+use mathlib.Core.Path.{_≡_, sym, _∙_}
 use mathlib.Core.Bool.{Bool, true, _&&_}
 use mathlib.Core.List.{List, [], _∷_}
 use lib.Dec.{T}
+use lib.ListN.{length}
 use Rattle.number.specs.declared.Refusal.{Refusal}
 use Rattle.number.specs.declared.Refusal.the-variants.{Range, Typed}
+use Rattle.number.specs.Limits.{rulesFile}
 use Rattle.number.specs.Numbers.{writeNumber}
+use Rattle.meaning.specs.Re.{Text}
 use Rattle.meaning.specs.SampleTests.{sameBytes}
 use Rattle.book.specs.Book.{writeNode, writeNodes, writeRule, writeRules, writeBook}
 use Rattle.lines.specs.Digits.{digitsBy, decimal}
@@ -23,7 +27,8 @@ use Rattle.typed.specs.WorkedLaws.{same-bytes}
 use Rattle.typed.specs.Quoted.{quoted}
 use Rattle.typed.specs.TestLaws.{both-hold}
 use Rattle.advice.specs.Advice.{newlines, lastStart, shown, markLine, couldStand, kept, neighbours, joined, runs, byteName, runName, runNames, testedLine}
-use Rattle.advice.specs.Advice.{lineWords, columnWords, faultWords, typedAdvice, tooMuch, rangeAdvice, noRule, adviceOf}
+use Rattle.advice.specs.Advice.{phrase, placeWords, faultWords, typedAdvice, tooMuch, rangeAdvice, noRule, unread, adviceOn, adviceOf}
+use Rattle.advice.specs.AdviceLaws.{unread-told}
 
 -- a text, its refusal, and what people are told of it
 pub data Case : Type 0 where
@@ -58,7 +63,7 @@ cases =
     ) ∷
     Told "" (Range 0) "words.rules has no rule.\n" ∷
     Told "1:a\n16384:b\n" (Range 4) (
-    "words.rules, line 2: with this line there are more than 32 rules, or its kind is above 16383, or the nodes are more than 512 in all.\n" ++
+    "words.rules, line 2, column 1: with this line there are more than 32 rules, or its kind is above 16383, or the nodes are more than 512 in all.\n" ++
     "16384:b\n"
     ) ∷
     []
@@ -69,7 +74,7 @@ unfolding sameBytes bookBytes answered ranged startOf fault outOf bookOf
     ended step byName lastDigit firstDigit byKey marks barred shut shutIn opened known starts key hex bare between
     postfix ranges joinedExps spans named quoted writeBook writeRules writeRule writeNodes writeNode writeNumber digitsBy decimal
     newlines lastStart shown markLine couldStand kept neighbours joined runs byteName runName runNames testedLine
-    lineWords columnWords faultWords typedAdvice tooMuch rangeAdvice noRule adviceOf
+    phrase placeWords faultWords typedAdvice tooMuch rangeAdvice noRule adviceOn adviceOf
 test (Told text r advice) = sameBytes (adviceOf (quoted text) r) (quoted advice)
 
 unfoldable tests : List Case → Bool
@@ -91,3 +96,9 @@ tests-hold (x ∷ xs) p = let q = both-hold (test x) (tests xs) p in (test-holds
 
 pub the-told-texts : EachHolds cases
 the-told-texts = tests-hold cases cases-pass
+
+-- and of a file that is missing or too long, which is handed on as too many bytes
+pub the-unread-file : (text : Text) (r : Refusal) → rulesFile < length text
+    → adviceOf text r ≡ quoted "words.rules cannot be read, or has more than 32768 bytes.\n"
+unfolding sameBytes quoted digitsBy decimal phrase unread
+the-unread-file text r h = sym (unread-told text r h) ∙ same-bytes unread (quoted "words.rules cannot be read, or has more than 32768 bytes.\n") tt

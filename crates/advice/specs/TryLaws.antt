@@ -11,7 +11,7 @@ use lib.ListN.{length, take, drop, set, replicate, length-append, length-set, le
 use lib.Seq.{take-suc-set, take-set-le, length-take-le, getD-set-same, getD-set-other}
 use borrow.Author.Tests.{eq-eqb, ne-eqb, le-ltb}
 use Rattle.number.specs.declared.Refusal.{Refusal}
-use Rattle.number.specs.declared.Refusal.the-variants.{Room}
+use Rattle.number.specs.declared.Refusal.the-variants.{Room, Typed}
 use Rattle.number.specs.Limits.{bytes, typedArea}
 use Rattle.number.specs.Refused.{Outcome, number, place}
 use Rattle.number.specs.Refused.Outcome.{gives, refuses}
@@ -98,24 +98,20 @@ tried-line text tried found p e t =
 
 -- ---- one try: what the answer of type_rules says of the last byte
 
-pub other-number : (p : ℕ) (r : Refusal) (n : ℕ) → n ≡ number r → (n ≡ 14 → ⊥) → Elsewhere p r 1
-other-number p r n e h = record { tells = sym (ap (λ b. not (b && eqb (place r) p)) (ne-eqb (number r) 14 (λ z. h (e ∙ z)))) }
+module _ (p : ℕ) (r : Refusal) {n wrong : ℕ} (e : n ≡ number r) (w : wrong ≡ number (Typed p)) where
+  pub other-number : (n ≡ wrong → ⊥) → Elsewhere p r 1
+  other-number h =
+      record { tells = sym (ap (λ b. not (b && eqb (place r) p)) (ne-eqb (number r) (number (Typed p)) (λ z. h (e ∙ z ∙ sym w)))) }
 
-pub other-place : (p : ℕ) (r : Refusal) (n q : ℕ) → n ≡ number r → n ≡ 14 → q ≡ place r → (q ≡ p → ⊥) → Elsewhere p r 1
-other-place p r n q e h f g =
-    record {
-      tells = sym (
-          ap (λ b. not (b && eqb (place r) p)) (eq-eqb (number r) 14 (sym e ∙ h)) ∙ ap not (ne-eqb (place r) p (λ z. g (f ∙ z)))
-          );
-    }
+  by-place : (flag : ℕ) → n ≡ wrong → not (eqb flag 0) ≡ not (eqb (place r) p) → Elsewhere p r flag
+  by-place flag h f =
+      record { tells = f ∙ sym (ap (λ b. not (b && eqb (place r) p)) (eq-eqb (number r) (number (Typed p)) (sym e ∙ h ∙ w))) }
 
-pub wrong-there : (p : ℕ) (r : Refusal) (n q : ℕ) → n ≡ number r → n ≡ 14 → q ≡ place r → q ≡ p → Elsewhere p r 0
-wrong-there p r n q e h f g =
-    record {
-      tells = sym (
-          ap (λ b. not (b && eqb (place r) p)) (eq-eqb (number r) 14 (sym e ∙ h)) ∙ ap not (eq-eqb (place r) p (sym f ∙ g))
-          );
-    }
+  pub other-place : {q : ℕ} → n ≡ wrong → q ≡ place r → (q ≡ p → ⊥) → Elsewhere p r 1
+  other-place h f g = by-place 1 h (sym (ap not (ne-eqb (place r) p (λ z. g (f ∙ z)))))
+
+  pub wrong-there : {q : ℕ} → n ≡ wrong → q ≡ place r → q ≡ p → Elsewhere p r 0
+  wrong-there h f g = by-place 0 h (sym (ap not (eq-eqb (place r) p (sym f ∙ g))))
 
 -- the area that the code lends is large enough: the answer is that of bookBytes
 abbrev pub area : List ℕ

@@ -12,7 +12,7 @@ use Rattle.number.specs.Lists.{drop-one, Writes}
 use Rattle.lines.specs.Digits.{decimal}
 use Rattle.typed.specs.Quoted.{quoted}
 use Rattle.advice.specs.Advice.{newline, space, printed, shown, shownLine, markLine, byteName, runName}
-use Rattle.advice.specs.Advice.{lineWords, columnWords, faultWords, tooMuch}
+use Rattle.advice.specs.Advice.{phrase, placeWords, faultWords, overRules, overKinds, overNodes, inAll, tooMuch, overFile, inBytes, unread}
 use Rattle.advice.specs.Promises.{run}
 use Rattle.advice.specs.SpotLaws.{shown-newline, shown-other, shown-end}
 use Rattle.advice.specs.Left.{Left, left-all, left-as, left-byte, left-some, left-last, left-none}
@@ -119,15 +119,14 @@ module _ (lo hi : ℕ) {whole s t : List ℕ} {at₀ at : ℕ} where
 
 -- ---- the first line and the sentences
 
-pub line-words : (line : ℕ) (s : List ℕ) (at : ℕ) → at + length (lineWords line) ≤ length s
-    → Left (lineWords line) (quoted "words.rules, line " ++ decimal line) s s at at
-unfolding lineWords
-line-words line s at h = record { room = h; same = refl; ends = λ u end x. x }
+pub phrase-all : (words : List ℕ) (n : ℕ) (s : List ℕ) (at : ℕ) → at + length (phrase words n) ≤ length s → Left (phrase words n) (words ++ decimal n) s s at at
+unfolding phrase
+phrase-all words n s at h = record { room = h; same = refl; ends = λ u end x. x }
 
-pub column-words : (column : ℕ) (s : List ℕ) (at : ℕ) → at + length (columnWords column) ≤ length s
-    → Left (columnWords column) (quoted ", column " ++ decimal column) s s at at
-unfolding columnWords
-column-words column s at h = record { room = h; same = refl; ends = λ u end x. x }
+pub place-all : (line column : ℕ) (s : List ℕ) (at : ℕ) → at + length (placeWords line column) ≤ length s
+    → Left (placeWords line column) (phrase (quoted "words.rules, line ") line ++ phrase (quoted ", column ") column) s s at at
+unfolding placeWords
+place-all line column s at h = record { room = h; same = refl; ends = λ u end x. x }
 
 pub fault-end : {w : List ℕ} {b : Bool} → b ≡ true → w ≡ quoted ": the text ends here, but the rule does not.\n" → w ≡ faultWords b
 unfolding faultWords
@@ -138,6 +137,10 @@ unfolding faultWords
 fault-byte e f = f ∙ ap faultWords (sym e)
 
 pub too-much : (s : List ℕ) (at : ℕ) → at + length tooMuch ≤ length s
-    → Left tooMuch (quoted ": with this line there are more than 32 rules, " ++ (quoted "or its kind is above 16383, " ++ quoted "or the nodes are more than 512 in all.\n")) s s at at
+    → Left tooMuch (overRules ++ (overKinds ++ (overNodes ++ inAll))) s s at at
 unfolding tooMuch
 too-much s at h = record { room = h; same = refl; ends = λ u end x. x }
+
+pub unread-all : (s : List ℕ) (at : ℕ) → at + length unread ≤ length s → Left unread (overFile ++ inBytes) s s at at
+unfolding unread
+unread-all s at h = record { room = h; same = refl; ends = λ u end x. x }

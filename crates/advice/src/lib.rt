@@ -7,12 +7,15 @@ ghost use lib.ListN.{length, drop, take};
 ghost use Rattle.number.specs.Lists.{Writes};
 ghost use Rattle.number.specs.Limits.{bytes, rulesFile, typedArea};
 ghost use Rattle.advice.specs.Advice.{printed as printedOf, shownLine, markLine, byteName, testedLine};
-ghost use Rattle.advice.specs.Advice.{lineWords, columnWords, faultWords, tooMuch};
-ghost use Rattle.advice.specs.Advice.{neighbours, couldStand, typedAdvice, rangeAdvice, unread, adviceOf, adviceRoom};
+ghost use Rattle.advice.specs.Advice.{phrase, placeWords, faultWords, tooMuch};
+ghost use Rattle.advice.specs.Advice.{neighbours, couldStand, typedAdvice, rangeAdvice, unread, unsaved, adviceOn, adviceOf, adviceRoom};
 ghost use Rattle.advice.specs.Print.{MakesBook};
 ghost use Rattle.advice.specs.Promises.{SpotOf, run, flagged, NextUp, RunOf, Elsewhere, CouldEnd, Tried};
 use number::Refusal;
 use number::limits::BYTES;
+use number::limits::KINDS;
+use number::limits::NODES;
+use number::limits::RULES;
 use number::limits::RULES_FILE;
 use number::limits::TYPED_AREA;
 use table::Written;
@@ -21,9 +24,6 @@ use table::Written;
 pub const ADVICE_ROOM: usize = 2 * RULES_FILE + 16 * BYTES + 256;
 
 const NEWLINE: u8 = 10;
-
-// The number of the refusal of a byte that is typed wrongly.
-const TYPED: usize = 14;
 
 // A line of the text: its number, counted from 1, and the place where it starts.
 struct Spot {
@@ -124,22 +124,22 @@ fn put_name(c: u8, out: &mut [u8], at: usize) -> usize
     lines::put_byte(printed(c), out, at)
 }
 
-// The words that all advice on a line begins with.
-fn put_line(line: usize, out: &mut [u8], at: usize) -> usize
-    requires { ⌜ at + length (lineWords line) ≤ length (now out) ⌝ }
-    ensures { λ next. ⌜ Writes (lineWords line) (now (out .entry)) (now (out .exit)) at next ⌝ }
+// Words, and behind them a number.
+fn put_phrase(words: &[u8], n: usize, out: &mut [u8], at: usize) -> usize
+    requires { ⌜ at + length (phrase (now words) n) ≤ length (now out) ⌝ }
+    ensures { λ next. ⌜ Writes (phrase (now (words .entry)) n) (now (out .entry)) (now (out .exit)) at next ⌝ }
 {
-    let number = put_text(b"words.rules, line ", out, at);
-    lines::put_decimal(line, out, number)
+    let number = put_text(words, out, at);
+    lines::put_decimal(n, out, number)
 }
 
-// Where on its line the wrong byte stands.
-fn put_column(column: usize, out: &mut [u8], at: usize) -> usize
-    requires { ⌜ at + length (columnWords column) ≤ length (now out) ⌝ }
-    ensures { λ next. ⌜ Writes (columnWords column) (now (out .entry)) (now (out .exit)) at next ⌝ }
+// Where a refusal is: the words that all advice on a line begins with.
+fn put_place(line: usize, column: usize, out: &mut [u8], at: usize) -> usize
+    requires { ⌜ at + length (placeWords line column) ≤ length (now out) ⌝ }
+    ensures { λ next. ⌜ Writes (placeWords line column) (now (out .entry)) (now (out .exit)) at next ⌝ }
 {
-    let number = put_text(b", column ", out, at);
-    lines::put_decimal(column, out, number)
+    let behind = put_phrase(b"words.rules, line ", line, out, at);
+    put_phrase(b", column ", column, out, behind)
 }
 
 // What is wrong there: the text ends, or it has a byte that does not fit.
@@ -158,9 +158,10 @@ fn put_too_much(out: &mut [u8], at: usize) -> usize
     requires { ⌜ at + length tooMuch ≤ length (now out) ⌝ }
     ensures { λ next. ⌜ Writes tooMuch (now (out .entry)) (now (out .exit)) at next ⌝ }
 {
-    let kind = put_text(b": with this line there are more than 32 rules, ", out, at);
-    let nodes = put_text(b"or its kind is above 16383, ", out, kind);
-    put_text(b"or the nodes are more than 512 in all.\n", out, nodes)
+    let kind = put_phrase(b": with this line there are more than ", RULES, out, at);
+    let nodes = put_phrase(b" rules, or its kind is above ", KINDS, out, kind);
+    let all = put_phrase(b", or the nodes are more than ", NODES, out, nodes);
+    put_text(b" in all.\n", out, all)
 }
 
 // A space and a run of neighbouring bytes.
@@ -241,7 +242,7 @@ fn put_runs(found: &[u8], out: &mut [u8], at: usize) -> usize
 fn elsewhere(r: Refusal, p: usize) -> u8
     ensures { λ flag. ⌜ Elsewhere p r flag ⌝ }
 {
-    if number::refusal_number(r) != TYPED {
+    if number::refusal_number(r) != number::refusal_number(Refusal::Typed(p)) {
         return 1;
     }
     if number::refusal_place(r) != p {
@@ -316,11 +317,11 @@ fn put_typed(text: &[u8], p: usize, out: &mut [u8], at: usize) -> usize
 {
     let spot = find_spot(&text[0..p]);
     let start = spot.start;
-    let column = put_line(spot.line, out, at);
-    let fault = put_column(p - start + 1, out, column);
+    let before = p - start;
+    let fault = put_place(spot.line, before + 1, out, at);
     let shown = put_fault(p == text.len(), out, fault);
     let mark = put_shown(text, start, out, shown);
-    let could = put_mark(p - start, out, mark);
+    let could = put_mark(before, out, mark);
     put_could(text, p, out, could)
 }
 
@@ -332,7 +333,7 @@ fn put_range(text: &[u8], p: usize, out: &mut [u8], at: usize) -> usize
 {
     let spot = find_spot(&text[0..p]);
     let start = spot.start;
-    let fault = put_line(spot.line, out, at);
+    let fault = put_place(spot.line, p - start + 1, out, at);
     let shown = put_too_much(out, fault);
     put_shown(text, start, out, shown)
 }
@@ -342,19 +343,20 @@ fn put_unread(out: &mut [u8]) -> usize
     requires { ⌜ adviceRoom ≤ length (now out) ⌝ }
     ensures { λ next. ⌜ Writes unread (now (out .entry)) (now (out .exit)) 0 next ⌝ }
 {
-    put_text(
-        b"words.rules cannot be read, or has more than 32768 bytes.\n",
+    let bytes = put_phrase(
+        b"words.rules cannot be read, or has more than ",
+        RULES_FILE,
         out,
         0,
-    )
+    );
+    put_text(b" bytes.\n", out, bytes)
 }
 
-// All that people are told of a refusal; the answer is its length.
-pub fn advise(text: &[u8], r: Refusal, out: &mut [u8]) -> usize
+// What people are told of a refusal of a text that was read.
+fn put_advice(text: &[u8], r: Refusal, out: &mut [u8]) -> usize
     requires { ⌜ length (now text) ≤ rulesFile ⌝ }
     requires { ⌜ adviceRoom ≤ length (now out) ⌝ }
-    ensures { λ end. ⌜ Writes (adviceOf (now (text .entry)) r) (now (out .entry)) (now (out .exit)) 0 end ⌝ }
-    ensures { λ end. ⌜ end ≤ adviceRoom ⌝ }
+    ensures { λ end. ⌜ Writes (adviceOn (now (text .entry)) r) (now (out .entry)) (now (out .exit)) 0 end ⌝ }
 {
     match r {
         Refusal::Typed(p) => {
@@ -372,7 +374,7 @@ pub fn advise(text: &[u8], r: Refusal, out: &mut [u8]) -> usize
             }
             put_range(text, p, out, 0)
         }
-        Refusal::Input => put_unread(out),
+        Refusal::Input => 0,
         Refusal::Short(_) => 0,
         Refusal::Number(_) => 0,
         Refusal::Stack(_) => 0,
@@ -387,13 +389,34 @@ pub fn advise(text: &[u8], r: Refusal, out: &mut [u8]) -> usize
     }
 }
 
+// All that people are told of a refusal; the answer is its length. As for rules_book, too many bytes stand for a file that is missing or too long.
+pub fn advise(text: &[u8], r: Refusal, out: &mut [u8]) -> usize
+    requires { ⌜ adviceRoom ≤ length (now out) ⌝ }
+    ensures { λ end. ⌜ Writes (adviceOf (now (text .entry)) r) (now (out .entry)) (now (out .exit)) 0 end ⌝ }
+    ensures { λ end. ⌜ end ≤ adviceRoom ⌝ }
+{
+    if RULES_FILE < text.len() {
+        return put_unread(out);
+    }
+    put_advice(text, r, out)
+}
+
+// What people are told where the book of a right text cannot be written to its file.
+pub fn advise_unsaved(out: &mut [u8]) -> usize
+    requires { ⌜ adviceRoom ≤ length (now out) ⌝ }
+    ensures { λ end. ⌜ Writes unsaved (now (out .entry)) (now (out .exit)) 0 end ⌝ }
+    ensures { λ end. ⌜ end ≤ adviceRoom ⌝ }
+{
+    put_text(b"words.book cannot be written.\n", out, 0)
+}
+
 // The book of a file of typed rules; more bytes than it may have stand for a file that is missing or too long.
 pub fn rules_book(text: &[u8], out: &mut [u8]) -> Written
     requires { ⌜ typedArea ≤ length (now out) ⌝ }
     ensures { λ r. ⌜ MakesBook (now (text .entry)) (now (out .entry)) r (now (out .exit)) ⌝ }
 {
-    if RULES_FILE < text.len() {
-        return Written::Unwritten(Refusal::Input);
+    if text.len() <= RULES_FILE {
+        return typing::type_rules(text, out);
     }
-    typing::type_rules(text, out)
+    Written::Unwritten(Refusal::Input)
 }

@@ -1,8 +1,9 @@
 -- `advice::put_range` meets its contract: the parts of its definition, one after the other.
 -- Assumes nothing.
+use Prim.Native.Nat.{_+_, _-_}
 use mathlib.Core.List.{_++_}
 use lib.ListN.{drop}
-use Rattle.advice.specs.Advice.{lineWords, tooMuch, shownLine}
+use Rattle.advice.specs.Advice.{placeWords, tooMuch, shownLine}
 use Rattle.advice.specs.Left.{left-room, left-step, left-last}
 use Rattle.advice.specs.AdviceLaws.{range-all}
 use borrow.Author.Needs.{needs}
@@ -21,26 +22,32 @@ part-find-spot-end c = search needs
 find-spot-requires : tie.Need-find-spot-requires
 find-spot-requires c κs = search needs
 
-put-line-requires : tie.Need-put-line-requires
-put-line-requires c κs =
+sub-put-place : tie.Need-sub-put-place
+sub-put-place c = search needs
+
+add-put-place : tie.Need-add-put-place
+add-put-place c = search needs
+
+put-place-requires : tie.Need-put-place-requires
+put-place-requires c κs =
     let find-spot = c .before .find-spot in
     let start = c .before .before .before .before .before in
-    left-room (lineWords (find-spot .result .line)) (tooMuch ++ shownLine (drop (find-spot .result .start) (start .args .text .now))) (range-all (start .args .text .now) (start .args .p) _ _ (start .args .out .now) _ (find-spot .ensures) (start .pre .1))
+    left-room (placeWords (find-spot .result .line) (start .args .p - find-spot .result .start + 1)) (tooMuch ++ (shownLine (drop (find-spot .result .start) (start .args .text .now)))) (range-all (start .args .text .now) (start .args .p) _ _ (start .args .out .now) _ (find-spot .ensures) (start .pre .1))
 
 put-too-much-requires : tie.Need-put-too-much-requires
 put-too-much-requires c κs =
     let find-spot = c .before .before .before .before .before .find-spot in
     let start = c .before .before .before .before .before .before .before .before .before in
-    let put-line = c .before .before .before .put-line in
-    left-room tooMuch (shownLine (drop (find-spot .result .start) (start .args .text .now))) (left-step (lineWords (find-spot .result .line)) (tooMuch ++ shownLine (drop (find-spot .result .start) (start .args .text .now))) (range-all (start .args .text .now) (start .args .p) _ _ (start .args .out .now) _ (find-spot .ensures) (start .pre .1)) (put-line .ensures))
+    let put-place = c .before .before .before .put-place in
+    left-room tooMuch (shownLine (drop (find-spot .result .start) (start .args .text .now))) (left-step (placeWords (find-spot .result .line) (start .args .p - find-spot .result .start + 1)) (tooMuch ++ (shownLine (drop (find-spot .result .start) (start .args .text .now)))) (range-all (start .args .text .now) (start .args .p) _ _ (start .args .out .now) _ (find-spot .ensures) (start .pre .1)) (put-place .ensures))
 
 put-shown-requires : tie.Need-put-shown-requires
 put-shown-requires c κs =
     let find-spot = c .before .before .before .before .before .before .before .before .before .find-spot in
     let start = c .before .before .before .before .before .before .before .before .before .before .before .before .before in
-    let put-line = c .before .before .before .before .before .before .before .put-line in
+    let put-place = c .before .before .before .before .before .before .before .put-place in
     let put-too-much = c .before .before .before .put-too-much in
-    (left-step tooMuch (shownLine (drop (find-spot .result .start) (start .args .text .now))) (left-step (lineWords (find-spot .result .line)) (tooMuch ++ shownLine (drop (find-spot .result .start) (start .args .text .now))) (range-all (start .args .text .now) (start .args .p) _ _ (start .args .out .now) _ (find-spot .ensures) (start .pre .1)) (put-line .ensures)) (put-too-much .ensures)) .room
+    (left-step tooMuch (shownLine (drop (find-spot .result .start) (start .args .text .now))) (left-step (placeWords (find-spot .result .line) (start .args .p - find-spot .result .start + 1)) (tooMuch ++ (shownLine (drop (find-spot .result .start) (start .args .text .now)))) (range-all (start .args .text .now) (start .args .p) _ _ (start .args .out .now) _ (find-spot .ensures) (start .pre .1)) (put-place .ensures)) (put-too-much .ensures)) .room
 
 same-length : tie.Need-same-length
 same-length c = search needs
@@ -49,10 +56,10 @@ returns : tie.Need-returns
 returns c =
     let find-spot = c .before .before .before .before .before .before .before .before .before .before .before .before .find-spot in
     let start = c .before .before .before .before .before .before .before .before .before .before .before .before .before .before .before .before in
-    let put-line = c .before .before .before .before .before .before .before .before .before .before .put-line in
+    let put-place = c .before .before .before .before .before .before .before .before .before .before .put-place in
     let put-too-much = c .before .before .before .before .before .before .put-too-much in
     let put-shown = c .before .before .put-shown in
-    left-last (left-step tooMuch (shownLine (drop (find-spot .result .start) (start .args .text .now))) (left-step (lineWords (find-spot .result .line)) (tooMuch ++ shownLine (drop (find-spot .result .start) (start .args .text .now))) (range-all (start .args .text .now) (start .args .p) _ _ (start .args .out .now) _ (find-spot .ensures) (start .pre .1)) (put-line .ensures)) (put-too-much .ensures)) (put-shown .ensures)
+    left-last (left-step tooMuch (shownLine (drop (find-spot .result .start) (start .args .text .now))) (left-step (placeWords (find-spot .result .line) (start .args .p - find-spot .result .start + 1)) (tooMuch ++ (shownLine (drop (find-spot .result .start) (start .args .text .now)))) (range-all (start .args .text .now) (start .args .p) _ _ (start .args .out .now) _ (find-spot .ensures) (start .pre .1)) (put-place .ensures)) (put-too-much .ensures)) (put-shown .ensures)
 
 pub put-range-spec : {M : Type 1} → statement M
 put-range-spec =
@@ -62,7 +69,9 @@ put-range-spec =
     part-find-spot-start
     part-find-spot-end
     find-spot-requires
-    put-line-requires
+    sub-put-place
+    add-put-place
+    put-place-requires
     put-too-much-requires
     put-shown-requires
     same-length
