@@ -1,6 +1,8 @@
 //! A model of the word cutter, written from its specification alone; it does what the
 //! programs do, makes cases for them with the expected outputs, and tests itself.
 
+mod advice;
+mod advice_checks;
 mod book;
 mod brute;
 mod build;
@@ -51,9 +53,9 @@ use std::io::{self, Read, Write};
 use std::path::Path;
 use std::process::ExitCode;
 
-const USAGE: &str = "model cut DIR | compare DIR | sheet DIR | rules DIR | typed AREA
-    | cases N SEED OUT | typed-cases N SEED OUT | stored DIR | typed-stored DIR
-    | limits | selftest | selftest typed";
+const USAGE: &str = "model cut DIR | compare DIR | sheet DIR | rules DIR | advice DIR
+    | typed AREA | cases N SEED OUT | typed-cases N SEED OUT | stored DIR
+    | typed-stored DIR | limits | selftest | selftest typed";
 
 fn main() -> ExitCode {
     let arguments: Vec<String> = std::env::args().skip(1).collect();
@@ -72,10 +74,8 @@ fn main() -> ExitCode {
 fn run(words: &[&str]) -> io::Result<bool> {
     match words {
         ["cut", folder] => {
-            let book = file(folder, "words.book");
-            let mut bytes = Vec::new();
-            let text = io::stdin().read_to_end(&mut bytes).ok().map(|_| &bytes[..]);
-            io::stdout().write_all(&programs::cut(book.as_deref(), text))?;
+            let (book, text) = (file(folder, "words.book"), input().ok());
+            io::stdout().write_all(&programs::cut(book.as_deref(), text.as_deref()))?;
         }
         ["compare", folder] => {
             let (book, sheet) = (file(folder, "words.book"), file(folder, "words.sheet"));
@@ -89,11 +89,8 @@ fn run(words: &[&str]) -> io::Result<bool> {
             Ok(book) => fs::write(Path::new(folder).join("words.book"), book)?,
             Err(refusal) => print!("{}", refusal.line()),
         },
-        ["typed", area] => {
-            let mut text = Vec::new();
-            io::stdin().read_to_end(&mut text)?;
-            println!("{}", typed_stored::answer(&text, number(area)?));
-        }
+        ["advice", folder] => print!("{}", advice::told(file(folder, "words.rules").as_deref())),
+        ["typed", area] => println!("{}", typed_stored::answer(&input()?, number(area)?)),
         ["cases", count, seed, folder] => {
             cases::put_cases(number(count)?, number(seed)?, Path::new(folder))?;
         }
@@ -113,6 +110,13 @@ fn run(words: &[&str]) -> io::Result<bool> {
 /// A number of the command line.
 fn number<T: std::str::FromStr>(word: &str) -> io::Result<T> {
     word.parse().map_err(|_| io::Error::other(USAGE))
+}
+
+/// All of standard input.
+fn input() -> io::Result<Vec<u8>> {
+    let mut bytes = Vec::new();
+    io::stdin().read_to_end(&mut bytes)?;
+    Ok(bytes)
 }
 
 /// A file's bytes, if it can be read.

@@ -1,7 +1,8 @@
 //! Cases for the program `rules` from a seed: a typed text, perhaps an older book and a
-//! text to cut, with what the program prints, the book that is there afterwards and the
-//! words that it cuts by what the rules mean as they are typed.
+//! text to cut, with what the program prints and tells, the book that is there afterwards
+//! and the words that it cuts by what the rules mean as they are typed.
 
+use crate::advice;
 use crate::book;
 use crate::build::build;
 use crate::cases::File;
@@ -35,12 +36,14 @@ impl TypedCase {
     }
 
     /// Writes the inputs and what is expected into a new folder: what the program prints
-    /// with the book that is there afterwards, and if it is a new one, a cut by it.
+    /// with the book that is there afterwards, and if it is a new one, a cut by it; and
+    /// what the program tells on standard error.
     fn put(&self, rng: &mut Rng, folder: &Path) -> io::Result<()> {
         fs::create_dir_all(folder)?;
         self.rules.put(&folder.join("words.rules"))?;
         self.old.put(&folder.join("words.book"))?;
         fs::write(folder.join("about"), format!("{}\n", self.name))?;
+        fs::write(folder.join("rules.told"), advice::told(self.rules.bytes()))?;
         let (line, after) = match programs::rules(self.rules.bytes()) {
             Ok(book) => {
                 let text = subject(rng, &book);

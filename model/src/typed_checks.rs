@@ -1,6 +1,8 @@
 //! The model's test of itself, last part: typed texts. Fixed ones and short ones, where
-//! wrong bytes are told in several ways; then `typed_laws` has random ones.
+//! wrong bytes are told in several ways; then `typed_laws` has random ones, and
+//! `advice_checks` what people are told.
 
+use crate::advice_checks;
 use crate::book;
 use crate::brute::all_texts;
 use crate::limits::{OPEN, RULES_FILE, TYPED_AREA};
@@ -36,6 +38,7 @@ pub fn run(checks: &mut Checks) {
     files(checks);
     large(checks);
     typed_laws::run(checks);
+    advice_checks::run(checks);
 }
 
 /// The sets by a table, and by what the machine's library has of them.

@@ -191,7 +191,7 @@ const WRONG_TOO: &[&[u8]] = &[
     b"1:a@,b\n",
     b"1:(@\"a\")\n",
     b"1:a@{2}\n",
-    b"1:@\0\n",
+    b"1:@\0\x1F ~\x7F\x80\xFF\n",
     b"1:a@\xC3\xA4\n",
     b"@\xEF\xBB\xBF1:a\n",
 ];

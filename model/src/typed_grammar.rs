@@ -81,8 +81,8 @@ fn replaced(from: BTreeSet<Left>) -> BTreeSet<Left> {
     found
 }
 
-/// The place of the first wrong byte, if there is one.
-pub fn wrong_by_grammar(text: &[u8]) -> Option<usize> {
+/// All that can be left behind a text, or the place of its first wrong byte.
+fn derived(text: &[u8]) -> Result<BTreeSet<Left>, usize> {
     let mut all = replaced(BTreeSet::from([vec![Text]]));
     for (at, byte) in text.iter().enumerate() {
         let mut behind = BTreeSet::new();
@@ -92,9 +92,26 @@ pub fn wrong_by_grammar(text: &[u8]) -> Option<usize> {
             }
         }
         if behind.is_empty() {
-            return Some(at);
+            return Err(at);
         }
         all = replaced(behind);
     }
-    (!all.contains(&vec![])).then_some(text.len())
+    Ok(all)
+}
+
+/// The place of the first wrong byte, if there is one.
+pub fn wrong_by_grammar(text: &[u8]) -> Option<usize> {
+    match derived(text) {
+        Ok(all) => (!all.contains(&vec![])).then_some(text.len()),
+        Err(at) => Some(at),
+    }
+}
+
+/// The bytes that some derivation goes on with behind a text; none behind a wrong byte.
+pub fn next_by_grammar(text: &[u8]) -> BTreeSet<u8> {
+    let next = |left: &Left| match left.last() {
+        Some(Byte(bytes)) => bytes.to_vec(),
+        _ => vec![],
+    };
+    derived(text).unwrap_or_default().iter().flat_map(next).collect()
 }
