@@ -252,7 +252,7 @@ module _ (text : Text) (r : Refusal) where
           let same : Typed p ≡ r = cc in
           told-as same (typed-told p (the-wrong-byte text p .0 f))
 
--- whatever program rules refuses, people are told by the text that belongs to it
+-- whatever text program rules refuses, people are told by the advice that belongs to it
 pub the-telling : (text : Text) (r : Refusal) → rulesBytes text ≡ refuses r → Told text r (adviceOf text r)
 unfolding rulesBytes
 the-telling text r e =
