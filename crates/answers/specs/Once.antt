@@ -1,10 +1,12 @@
 -- Any two results that a promise allows for one input are equal: the answer, and all lent memory.
--- One theorem for each public call; a promise is what the call's contract in src/ states.
+-- One theorem for each public call; a promise is what the call's contract in src/ states. OnceInC has the calls for C.
 use Prim.Native.Nat.{ℕ}
-use mathlib.Core.Path.{_≡_, refl, sym, _∙_}
+use mathlib.Core.Path.{_≡_, sym, _∙_}
 use mathlib.Core.Bool.{Bool}
 use mathlib.Core.List.{List}
+use Rattle.number.specs.declared.Refusal.{Refusal}
 use Rattle.number.specs.declared.Taken.{Taken}
+use Rattle.number.specs.Refused.{number, place}
 use Rattle.number.specs.Numbers.{taken, readNumber, field}
 use Rattle.meaning.specs.Re.{Text}
 use Rattle.book.specs.declared.Checked.{Checked}
@@ -22,6 +24,12 @@ use Rattle.comparing.specs.declared.Compared.{Compared}
 use Rattle.comparing.specs.Promises.{Compares}
 use Rattle.typing.specs.Promises.{Types}
 use Rattle.answers.specs.Told.{taken-one, counted-one, wrote-one, checked-one, told-one, ended-one, compared-one}
+
+pub one-refusal-number : (r : Refusal) (x y : ℕ) → x ≡ number r → y ≡ number r → x ≡ y
+one-refusal-number r x y p q = p ∙ sym q
+
+pub one-refusal-place : (r : Refusal) (x y : ℕ) → x ≡ place r → y ≡ place r → x ≡ y
+one-refusal-place r x y p q = p ∙ sym q
 
 pub one-number : (s : List ℕ) (at : ℕ) (x y : Taken) → taken x ≡ readNumber s at → taken y ≡ readNumber s at → x ≡ y
 one-number s at x y p q = taken-one x y (p ∙ sym q)

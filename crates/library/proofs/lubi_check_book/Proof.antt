@@ -2,7 +2,7 @@
 -- Assumes nothing.
 use borrow.Author.Needs.{needs}
 use mathlib.Core.Path.{ap, _∙_}
-use Rattle.library.specs.Packed.{packed, toldSize}
+use Rattle.packed.specs.Packed.{packed, toldSize}
 use Rattle.library.proofs.lubi_check_book.Statement.{statement}
 use Rattle.library.proofs.lubi_check_book.Tie as tie
 

@@ -2,7 +2,7 @@
 -- Assumes nothing.
 use borrow.Author.Needs.{needs}
 use mathlib.Core.Path.{ap, _∙_}
-use Rattle.library.specs.Packed.{packed, toldCompared}
+use Rattle.packed.specs.Packed.{packed, toldCompared}
 use Rattle.library.proofs.lubi_compare.Statement.{statement}
 use Rattle.library.proofs.lubi_compare.Tie as tie
 

@@ -2,7 +2,7 @@
 -- Assumes nothing.
 use borrow.Author.Needs.{needs}
 use mathlib.Core.Path.{ap, _∙_}
-use Rattle.library.specs.Packed.{packed, toldReport}
+use Rattle.packed.specs.Packed.{packed, toldReport}
 use Rattle.library.proofs.lubi_cut_from.Statement.{statement}
 use Rattle.library.proofs.lubi_cut_from.Tie as tie
 

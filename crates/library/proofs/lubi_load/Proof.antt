@@ -2,7 +2,7 @@
 -- Assumes nothing.
 use borrow.Author.Needs.{needs}
 use mathlib.Core.Path.{ap, _∙_}
-use Rattle.library.specs.Packed.{packed, toldCount}
+use Rattle.packed.specs.Packed.{packed, toldCount}
 use Rattle.library.proofs.lubi_load.Statement.{statement}
 use Rattle.library.proofs.lubi_load.Tie as tie
 

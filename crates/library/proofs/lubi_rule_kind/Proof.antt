@@ -1,7 +1,7 @@
 -- `library::lubi_rule_kind` meets its contract: what `rule_kind` answers, packed.
 -- Assumes nothing.
 use mathlib.Core.Path.{ap, _∙_}
-use Rattle.library.specs.Packed.{packed, toldKind}
+use Rattle.packed.specs.Packed.{packed, toldKind}
 use borrow.Author.Needs.{needs}
 use Rattle.library.proofs.lubi_rule_kind.Statement.{statement}
 use Rattle.library.proofs.lubi_rule_kind.Tie as tie

@@ -1,7 +1,7 @@
 -- `library::lubi_well_formed` meets its contract: the test's answer, packed.
 -- Assumes nothing.
 use mathlib.Core.Path.{sym, ap, _∙_}
-use Rattle.library.specs.Packed.{packed, tested, toldCount}
+use Rattle.packed.specs.Packed.{packed, tested, toldCount}
 use borrow.Author.Needs.{needs}
 use Rattle.library.proofs.lubi_well_formed.Statement.{statement}
 use Rattle.library.proofs.lubi_well_formed.Tie as tie

@@ -13,8 +13,8 @@ use Rattle.cutting.specs.Cut.Ending.{Done, StuckAt, FullAt}
 use Rattle.cutting.specs.Calls.{Report}
 use Rattle.comparing.specs.Calls.{Told}
 use Rattle.comparing.specs.Calls.Told.{same, differs}
-use Rattle.library.specs.Packed.{packed, toldCount, toldSize, toldKind, toldReport, toldCompared}
-use Rattle.library.specs.Unpacked.{unpacked, countIn, sizeIn, kindIn, reportIn, comparedIn}
+use Rattle.packed.specs.Packed.{packed, toldCount, toldSize, toldKind, toldReport, toldCompared}
+use Rattle.packed.specs.Unpacked.{unpacked, countIn, sizeIn, kindIn, reportIn, comparedIn}
 
 -- for an answer of any kind whose numbers can be read back
 module _ {A : Type 0} (told : A → List ℕ) (read : List ℕ → A) (back : (x : A) → read (told x) ≡ x) where

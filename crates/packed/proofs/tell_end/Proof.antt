@@ -1,11 +1,11 @@
--- `library::tell_end` meets its contract: in each arm the value that was matched is told as the definition has it.
+-- `packed::tell_end` meets its contract: in each arm the value that was matched is told as the definition has it.
 -- Assumes nothing.
 use borrow.Author.Needs.{needs}
 use mathlib.Core.Path.{sym, ap, _∙_}
 use Rattle.cutting.specs.Calls.{ended}
-use Rattle.library.specs.Packed.{packed, toldReport}
-use Rattle.library.proofs.tell_end.Statement.{statement}
-use Rattle.library.proofs.tell_end.Tie as tie
+use Rattle.packed.specs.Packed.{packed, toldReport}
+use Rattle.packed.proofs.tell_end.Statement.{statement}
+use Rattle.packed.proofs.tell_end.Tie as tie
 
 enum-known-found : tie.Need-enum-known-found
 enum-known-found c = search needs

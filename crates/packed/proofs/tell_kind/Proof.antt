@@ -1,11 +1,11 @@
--- `library::tell_kind` meets its contract: in each arm the value that was matched is told as the definition has it.
+-- `packed::tell_kind` meets its contract: in each arm the value that was matched is told as the definition has it.
 -- Assumes nothing.
 use mathlib.Core.Path.{sym, ap, _∙_}
 use Rattle.book.specs.Calls.{told}
-use Rattle.library.specs.Packed.{packed, toldKind}
+use Rattle.packed.specs.Packed.{packed, toldKind}
 use borrow.Author.Needs.{needs}
-use Rattle.library.proofs.tell_kind.Statement.{statement}
-use Rattle.library.proofs.tell_kind.Tie as tie
+use Rattle.packed.proofs.tell_kind.Statement.{statement}
+use Rattle.packed.proofs.tell_kind.Tie as tie
 
 enum-known-found : tie.Need-enum-known-found
 enum-known-found c = search needs

@@ -1,8 +1,8 @@
--- `library::refuse` meets its contract: number and place are what the two calls answer.
+-- `packed::refuse` meets its contract: number and place are what the two calls answer.
 -- Assumes nothing.
 use borrow.Author.Needs.{needs}
-use Rattle.library.proofs.refuse.Statement.{statement}
-use Rattle.library.proofs.refuse.Tie as tie
+use Rattle.packed.proofs.refuse.Statement.{statement}
+use Rattle.packed.proofs.refuse.Tie as tie
 
 refusal-place-requires : tie.Need-refusal-place-requires
 refusal-place-requires c κs = search needs

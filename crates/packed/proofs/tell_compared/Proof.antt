@@ -1,11 +1,11 @@
--- `library::tell_compared` meets its contract: in each arm the value that was matched is told as the definition has it.
+-- `packed::tell_compared` meets its contract: in each arm the value that was matched is told as the definition has it.
 -- Assumes nothing.
 use borrow.Author.Needs.{needs}
 use mathlib.Core.Path.{sym, ap, _∙_}
 use Rattle.comparing.specs.Calls.{compared}
-use Rattle.library.specs.Packed.{packed, toldCompared}
-use Rattle.library.proofs.tell_compared.Statement.{statement}
-use Rattle.library.proofs.tell_compared.Tie as tie
+use Rattle.packed.specs.Packed.{packed, toldCompared}
+use Rattle.packed.proofs.tell_compared.Statement.{statement}
+use Rattle.packed.proofs.tell_compared.Tie as tie
 
 enum-told : tie.Need-enum-told
 enum-told c = search needs

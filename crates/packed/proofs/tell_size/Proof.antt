@@ -1,11 +1,11 @@
--- `library::tell_size` meets its contract: in each arm the value that was matched is told as the definition has it.
+-- `packed::tell_size` meets its contract: in each arm the value that was matched is told as the definition has it.
 -- Assumes nothing.
 use borrow.Author.Needs.{needs}
 use mathlib.Core.Path.{sym, ap, _∙_}
 use Rattle.book.specs.Calls.{checked}
-use Rattle.library.specs.Packed.{packed, toldSize}
-use Rattle.library.proofs.tell_size.Statement.{statement}
-use Rattle.library.proofs.tell_size.Tie as tie
+use Rattle.packed.specs.Packed.{packed, toldSize}
+use Rattle.packed.proofs.tell_size.Statement.{statement}
+use Rattle.packed.proofs.tell_size.Tie as tie
 
 enum-known-found : tie.Need-enum-known-found
 enum-known-found c = search needs

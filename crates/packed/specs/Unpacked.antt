@@ -16,7 +16,7 @@ use Rattle.cutting.specs.Cut.Ending.{Done, StuckAt, FullAt}
 use Rattle.cutting.specs.Calls.{Report}
 use Rattle.comparing.specs.Calls.{Told}
 use Rattle.comparing.specs.Calls.Told.{same, differs}
-use Rattle.library.specs.Packed.{Packed}
+use Rattle.packed.specs.Packed.{Packed}
 
 -- the refusal of a number, at a place
 abbrev pub refusalOf : ℕ → ℕ → Refusal

@@ -1,11 +1,11 @@
--- `library::tell_bytes` meets its contract: in each arm the value that was matched is told as the definition has it.
+-- `packed::tell_bytes` meets its contract: in each arm the value that was matched is told as the definition has it.
 -- Assumes nothing.
 use borrow.Author.Needs.{needs}
 use mathlib.Core.Path.{sym, ap, _∙_}
 use Rattle.table.specs.Calls.{wrote}
-use Rattle.library.specs.Packed.{packed, toldCount}
-use Rattle.library.proofs.tell_bytes.Statement.{statement}
-use Rattle.library.proofs.tell_bytes.Tie as tie
+use Rattle.packed.specs.Packed.{packed, toldCount}
+use Rattle.packed.proofs.tell_bytes.Statement.{statement}
+use Rattle.packed.proofs.tell_bytes.Tie as tie
 
 enum-known-found : tie.Need-enum-known-found
 enum-known-found c = search needs
