@@ -1,5 +1,5 @@
--- The definitions that contracts cite, in reading order, and the laws proved of them.
--- Limits and Refused first; then Numbers, which says how a number stands in a file, and Lists, which says what writing does to memory; what Branch, Lists and NumberLaws claim is proved, not believed.
+-- Numbers in files. Definitions, in reading order: Limits, Refused, Numbers, Reading, Lists (what writing does to memory: `written`, `Writes`).
+-- The other files, and what else Lists claims, are proved; Main gathers the theorems that are bought.
 pub mod Limits
 pub mod Refused
 pub mod Numbers
@@ -7,3 +7,4 @@ pub mod Reading
 pub mod Lists
 pub mod Branch
 pub mod NumberLaws
+pub mod Main

@@ -14,7 +14,7 @@ use Rattle.number.specs.declared.Refusal.the-variants.{Short, Number, Ra
 use Rattle.number.specs.Limits.{group, twoGroups, threeGroups, bytes}
 use Rattle.number.specs.Refused.{Answer}
 use Rattle.number.specs.Refused.Answer.{got, refused}
-use Rattle.number.specs.Numbers.{Bytes, due, several, readNumber, within, field, writeNumber}
+use Rattle.number.specs.Numbers.{Bytes, due, several, readNumber, within, field, writeNumber, NumberAt, FieldAt}
 use Rattle.number.specs.Branch.{by-cond}
 use Rattle.number.specs.Lists.{drop-one, drop-two, drop-three, drop-room, drop-at-place, drop-head}
 
@@ -174,14 +174,6 @@ read-written n s at t small e = sym (go (write-way n) e)
 clash : {r : Refusal} {n next : ℕ} → _≡_ {A = Answer ℕ} (refused r) (got n next) → ⊥
 clash e = let z : _≡_ {A = ℕ} 0 1 = cc in omega arith
 
--- a number stands at a place as it is written, and the place after it is within the list
-pub record NumberAt (s : List ℕ) (at n next : ℕ) : Type 0 where
-  pub stands : drop at s ≡ writeNumber n ++ drop next s
-  pub small : n < threeGroups
-  pub after : next ≡ at + length (writeNumber n)
-  pub onward : at < next
-  pub inside : next ≤ length s
-
 -- a byte that goes on is given back by the group that was read of it
 low-group : (a n rest : ℕ) → group ≤ a → a < bytes → n ≡ a % group + group * rest → a ≡ group + n % group
 low-group a n rest h k e = omega arith
@@ -286,12 +278,6 @@ field-got s lo hi at n next e h k = simp (e, le-ltb _ _ h, le-ltb _ _ k)
 pub field-written : (n : ℕ) (s : List ℕ) (lo hi at : ℕ) (t : List ℕ) → n < threeGroups → lo ≤ n → n ≤ hi
     → drop at s ≡ writeNumber n ++ t → field s lo hi at ≡ got n (at + length (writeNumber n))
 field-written n s lo hi at t small low high e = field-got s lo hi at n _ (read-written n s at t small e) low high
-
--- what a field that was read tells
-pub record FieldAt (s : List ℕ) (lo hi at n next : ℕ) : Type 0 where
-  pub low : lo ≤ n
-  pub high : n ≤ hi
-  pub read : readNumber s at ≡ got n next
 
 pub field-read : (s : List ℕ) (lo hi at n next : ℕ) → field s lo hi at ≡ got n next → FieldAt s lo hi at n next
 unfolding field within

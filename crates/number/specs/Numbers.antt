@@ -1,14 +1,15 @@
 -- Numbers in files: groups of seven bits, least first, one byte a group, the high bit on every group but the last.
 -- At most three groups, and the shortest form only: the last of two or three groups is not 0.
-use Prim.Native.Nat.{ℕ, _+_, _*_, _/_, _%_, _<_}
+use Prim.Native.Nat.{ℕ, _+_, _*_, _/_, _%_, _<_, _≤_}
+use mathlib.Core.Path.{_≡_}
 use mathlib.Core.Bool.{cond}
-use mathlib.Core.List.{List, [], _∷_}
+use mathlib.Core.List.{List, [], _∷_, _++_}
 use lib.Dec.{ltb, eqb}
-use lib.ListN.{length, getD}
+use lib.ListN.{length, getD, drop}
 use Rattle.number.specs.declared.Refusal.the-variants.{Short, Number, Range}
 use Rattle.number.specs.declared.Taken.{Taken}
 use Rattle.number.specs.declared.Taken.the-variants.{Value, Refused}
-use Rattle.number.specs.Limits.{group, twoGroups, bytes}
+use Rattle.number.specs.Limits.{group, twoGroups, threeGroups, bytes}
 use Rattle.number.specs.Refused.{Answer}
 use Rattle.number.specs.Refused.Answer.{got, refused}
 
@@ -55,3 +56,19 @@ writeNumber n =
     cond (ltb n group) (n ∷ [])
     (cond (ltb n twoGroups) ((group + n % group) ∷ (n / group) ∷ [])
     ((group + n % group) ∷ (group + n / group % group) ∷ (n / twoGroups) ∷ []))
+
+-- ---- for the theorems
+
+-- a number stands at a place as it is written, and the place after it is within the list
+pub record NumberAt (s : List ℕ) (at n next : ℕ) : Type 0 where
+  pub stands : drop at s ≡ writeNumber n ++ drop next s
+  pub small : n < threeGroups
+  pub after : next ≡ at + length (writeNumber n)
+  pub onward : at < next
+  pub inside : next ≤ length s
+
+-- what a field that was read tells
+pub record FieldAt (s : List ℕ) (lo hi at n next : ℕ) : Type 0 where
+  pub low : lo ≤ n
+  pub high : n ≤ hi
+  pub read : readNumber s at ≡ got n next
