@@ -1,23 +1,19 @@
--- The whole text for a refusal: its parts in the order in which the code puts them, and the cases of adviceOf.
+-- The whole text for a refusal: its parts in the order in which the code puts them, and that it fits into its room.
 -- Line and start are those that the code found for the bytes before the place.
-use Prim.Native.Nat.{ℕ, _+_, _-_, _≤_, _<_}
+use Prim.Native.Nat.{ℕ, _+_, _-_, _≤_}
 use native.Mathlib.Omega.{arith}
 use mathlib.Core.Path.{_≡_, refl, sym, ap, _∙_}
 use mathlib.Core.List.{List, [], _++_}
 use lib.Dec.{eqb}
 use lib.ListN.{length, take, drop}
-use borrow.Author.Tests.{eq-eqb, ne-eqb, lt-ltb, le-ltb}
 use Rattle.number.specs.declared.Refusal.{Refusal}
-use Rattle.number.specs.declared.Refusal.the-variants.{Range, Typed}
-use Rattle.number.specs.Limits.{rulesFile}
 use Rattle.number.specs.Lists.{Writes, writes-none}
 use Rattle.meaning.specs.Re.{Text}
-use Rattle.typed.specs.Quoted.{quoted}
-use Rattle.advice.specs.Advice.{newlines, lineAt, lastStart, startAt, columnAt, shownLine, markLine, couldStand, testedLine}
-use Rattle.advice.specs.Advice.{placeWords, faultWords, tooMuch, typedAdvice, rangeAdvice, noRule, unread, adviceOn, adviceOf, adviceRoom}
-use Rattle.advice.specs.Promises.{SpotOf}
-use Rattle.advice.specs.Left.{Left, left-all, left-as, left-room, left-step}
-use Rattle.advice.specs.WriteLaws.{writes-as}
+use Rattle.advised.specs.Advice.{newlines, lineAt, lastStart, startAt, columnAt, shownLine, markLine, couldStand, testedLine}
+use Rattle.advised.specs.Advice.{placeWords, faultWords, tooMuch, overFile, inBytes, typedAdvice, rangeAdvice, unread, adviceOf, adviceRoom}
+use Rattle.phrases.specs.Promises.{SpotOf}
+use Rattle.phrases.specs.Left.{Left, left-all, left-as, left-room, left-step}
+use Rattle.phrases.specs.WriteLaws.{writes-as}
 use Rattle.advice.specs.RoomLaws.{advice-room}
 
 -- the code looks at the part of the text from 0 to p
@@ -102,40 +98,18 @@ range-all text p line start s at f h =
     ap (λ k. placeWords line (p - k + 1) ++ (tooMuch ++ shownLine (drop k text))) (start-found text p line start f))
     (left-all (rangeAdvice text p) s at h)
 
--- ---- the cases
+-- a file that is not read
+pub unread-all : (s : List ℕ) (at : ℕ) → at + length unread ≤ length s → Left unread (overFile ++ inBytes) s s at at
+unfolding unread
+unread-all s at h = record { room = h; same = refl; ends = λ u end x. x }
 
-pub typed-outside : (text : Text) (p : ℕ) → length text < p → [] ≡ adviceOn text (Typed p)
-unfolding adviceOn
-typed-outside text p h = sym (rw (lt-ltb (length text) p h) refl)
+-- ---- the whole
 
-pub typed-inside : (text : Text) (p : ℕ) → p ≤ length text → typedAdvice text p ≡ adviceOn text (Typed p)
-unfolding adviceOn
-typed-inside text p h = sym (rw (le-ltb (length text) p h) refl)
-
-pub range-none : {w : List ℕ} (text : Text) (p : ℕ) → length text ≡ 0 → w ≡ quoted "words.rules has no rule.\n" → w ≡ adviceOn text (Range p)
-unfolding adviceOn noRule
-range-none text p h e = e ∙ sym (rw (eq-eqb (length text) 0 h) refl)
-
-pub range-outside : (text : Text) (p : ℕ) → (length text ≡ 0 → ⊥) → length text < p → [] ≡ adviceOn text (Range p)
-unfolding adviceOn
-range-outside text p n h = sym (rw (ne-eqb (length text) 0 n, lt-ltb (length text) p h) refl)
-
-pub range-inside : (text : Text) (p : ℕ) → (length text ≡ 0 → ⊥) → p ≤ length text → rangeAdvice text p ≡ adviceOn text (Range p)
-unfolding adviceOn
-range-inside text p n h = sym (rw (ne-eqb (length text) 0 n, le-ltb (length text) p h) refl)
-
+-- refusals that typing never answers, and places outside the text
 pub nothing-told : {w : List ℕ} (s : List ℕ) → w ≡ [] → Writes w s s 0 0
 nothing-told s e = writes-as (sym e) (writes-none s 0)
 
-pub unread-told : (text : Text) (r : Refusal) → rulesFile < length text → unread ≡ adviceOf text r
-unfolding adviceOf
-unread-told text r h = sym (rw (lt-ltb rulesFile (length text) h) refl)
-
-pub read-told : (text : Text) (r : Refusal) → length text ≤ rulesFile → adviceOn text r ≡ adviceOf text r
-unfolding adviceOf
-read-told text r h = sym (rw (le-ltb rulesFile (length text) h) refl)
-
 -- the advice fits, and so does its end
-pub advised : (text : Text) (r : Refusal) {w s t : List ℕ} {end : ℕ} → w ≡ adviceOf text r → Writes w s t 0 end
+pub advice-fits : (text : Text) (r : Refusal) {w s t : List ℕ} {end : ℕ} → w ≡ adviceOf text r → Writes w s t 0 end
     → Writes (adviceOf text r) s t 0 end × (end ≤ adviceRoom)
-advised text r e a = (writes-as e a, omega (arith, writes-as e a .place, advice-room text r))
+advice-fits text r e a = (writes-as e a, omega (arith, writes-as e a .place, advice-room text r))

@@ -17,9 +17,9 @@ use Rattle.meaning.specs.Re.{Text}
 use Rattle.lines.specs.Digits.{decimal}
 use Rattle.lines.specs.DigitLaws.{decimal-most}
 use Rattle.typed.specs.Quoted.{quoted}
-use Rattle.advice.specs.Advice.{newline, space, newlines, lineAt, startAt, columnAt, printed, shown, shownLine, markLine, couldStand}
-use Rattle.advice.specs.Advice.{kept, Run, neighbours, joined, runs, byteName, runName, runNames, testedLine}
-use Rattle.advice.specs.Advice.{phrase, placeWords, faultWords, overRules, overKinds, overNodes, inAll, tooMuch, overFile, inBytes, typedAdvice, rangeAdvice, noRule, unread, adviceOn, adviceOf, adviceRoom}
+use Rattle.advised.specs.Advice.{newline, space, newlines, lineAt, startAt, columnAt, printed, shown, shownLine, markLine, couldStand}
+use Rattle.advised.specs.Advice.{kept, Run, neighbours, joined, runs, byteName, runName, runNames, testedLine}
+use Rattle.advised.specs.Advice.{phrase, placeWords, faultWords, overRules, overKinds, overNodes, inAll, tooMuch, overFile, inBytes, typedAdvice, rangeAdvice, noRule, unread, adviceOn, adviceOf, adviceRoom}
 
 -- ---- lines
 

@@ -12,7 +12,7 @@ use Rattle.table.specs.declared.Written.{Written}
 use Rattle.table.specs.declared.Written.the-variants.{Bytes, Unwritten}
 use Rattle.table.specs.Calls.{wrote}
 use Rattle.typed.specs.Calls.{putBook}
-use Rattle.advice.specs.Print.{rulesBytes, MakesBook}
+use Rattle.rules_book.specs.Print.{rulesBytes, MakesBook}
 use Rattle.saved.specs.declared.Made.{Made}
 use Rattle.saved.specs.declared.Made.the-variants.{Saved, Unsaved, Refused}
 

@@ -63,7 +63,7 @@ pub fn make_book(text: &[u8], people: i32) -> Made
     ensures { λ made. ⌜ Makes (now (text .entry)) made ⌝ }
 {
     let mut book = [0u8; TYPED_AREA];
-    match advice::rules_book(text, &mut book) {
+    match rules_book::rules_book(text, &mut book) {
         Written::Bytes(n) => {
             if save(&book[0..n]) {
                 return Made::Saved;

@@ -1,6 +1,7 @@
 -- `advice::advise` meets its contract: a text that is too long for its file, or one that was read.
 -- Assumes nothing.
-use Rattle.advice.specs.AdviceLaws.{unread-told, read-told, advised}
+use Rattle.advice.specs.AdviceLaws.{advice-fits}
+use Rattle.advised.specs.CaseLaws.{unread-told, read-told}
 use borrow.Author.Needs.{needs}
 use Rattle.advice.proofs.advise.Statement.{statement}
 use Rattle.advice.proofs.advise.Tie as tie
@@ -16,7 +17,7 @@ returns c =
     let start = c .before .before .before .before .before .before .before in
     let if1 = c .before .before .before .before .if1 in
     let put-unread = c .before .before .put-unread in
-    advised _ _ (unread-told (start .args .text .now) (start .args .r) (if1 .taken)) (put-unread .ensures)
+    advice-fits _ _ (unread-told (start .args .text .now) (start .args .r) (if1 .taken)) (put-unread .ensures)
 
 put-advice-requires : tie.Need-put-advice-requires
 put-advice-requires c κs = search needs
@@ -29,7 +30,7 @@ returns-2 c =
     let start = c .before .before .before .before .before .before .before in
     let if1 = c .before .before .before .before .if1 in
     let put-advice = c .before .before .put-advice in
-    advised _ _ (read-told (start .args .text .now) (start .args .r) (if1 .left)) (put-advice .ensures)
+    advice-fits _ _ (read-told (start .args .text .now) (start .args .r) (if1 .left)) (put-advice .ensures)
 
 pub advise-spec : {M : Type 1} → statement M
 advise-spec =

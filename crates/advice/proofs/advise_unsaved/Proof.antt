@@ -2,7 +2,7 @@
 -- Assumes nothing.
 use native.Mathlib.Omega.{arith}
 use Rattle.typed.specs.Quoted.{quoted}
-use Rattle.advice.specs.Advice.{unsaved}
+use Rattle.advised.specs.Advice.{unsaved}
 use borrow.Author.Needs.{needs}
 use Rattle.advice.proofs.advise_unsaved.Statement.{statement}
 use Rattle.advice.proofs.advise_unsaved.Tie as tie

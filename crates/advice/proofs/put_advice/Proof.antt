@@ -3,9 +3,10 @@
 use native.Mathlib.Omega.{arith}
 use mathlib.Core.Path.{refl, sym, ap, _∙_}
 use Rattle.typed.specs.Quoted.{quoted}
-use Rattle.advice.specs.Advice.{adviceOn}
-use Rattle.advice.specs.WriteLaws.{writes-as}
-use Rattle.advice.specs.AdviceLaws.{typed-outside, typed-inside, range-none, range-outside, range-inside, nothing-told}
+use Rattle.advised.specs.Advice.{adviceOn}
+use Rattle.phrases.specs.WriteLaws.{writes-as}
+use Rattle.advised.specs.CaseLaws.{typed-outside, typed-inside, range-none, range-outside, range-inside}
+use Rattle.advice.specs.AdviceLaws.{nothing-told}
 use Rattle.advice.specs.RoomLaws.{typed-room, range-room}
 use borrow.Author.Needs.{needs}
 use Rattle.advice.proofs.put_advice.Statement.{statement}

@@ -3,8 +3,8 @@
 use Prim.Native.Nat.{_+_, _-_}
 use mathlib.Core.List.{_++_}
 use lib.ListN.{drop}
-use Rattle.advice.specs.Advice.{placeWords, tooMuch, shownLine}
-use Rattle.advice.specs.Left.{left-room, left-step, left-last}
+use Rattle.advised.specs.Advice.{placeWords, tooMuch, shownLine}
+use Rattle.phrases.specs.Left.{left-room, left-step, left-last}
 use Rattle.advice.specs.AdviceLaws.{range-all}
 use borrow.Author.Needs.{needs}
 use Rattle.advice.proofs.put_range.Statement.{statement}

@@ -1,6 +1,6 @@
 -- `advice::put_typed` meets its contract: the parts of its definition, one after the other.
 -- Assumes nothing.
-use Rattle.advice.specs.Left.{left-last}
+use Rattle.phrases.specs.Left.{left-last}
 use Rattle.advice.specs.AdviceLaws.{typed-all, place-room, place-on, fault-room, fault-on, shown-room, shown-on, mark-room, mark-on}
 use borrow.Author.Needs.{needs}
 use Rattle.advice.proofs.put_typed.Statement.{statement}

@@ -2,9 +2,9 @@
 -- Assumes nothing.
 use native.Mathlib.Omega.{arith}
 use Rattle.typed.specs.Quoted.{quoted}
-use Rattle.advice.specs.Advice.{overFile, inBytes}
-use Rattle.advice.specs.Left.{left-room, left-step, left-last}
-use Rattle.advice.specs.WriteLaws.{unread-all}
+use Rattle.advised.specs.Advice.{overFile, inBytes}
+use Rattle.phrases.specs.Left.{left-room, left-step, left-last}
+use Rattle.advice.specs.AdviceLaws.{unread-all}
 use Rattle.advice.specs.RoomLaws.{unread-most}
 use borrow.Author.Needs.{needs}
 use Rattle.advice.proofs.put_unread.Statement.{statement}
