@@ -21,7 +21,7 @@ use number::limits::TABLE_CELLS;
 use pool::INDEX_CELLS;
 use steps::Stepped;
 use table::Counted;
-use table::reading::fill;
+use table::fill;
 use vector::layout::WORK_LENGTH;
 
 // The row of item `i` goes into its 256 targets, run by run; the answer tells what is held then, and no number.

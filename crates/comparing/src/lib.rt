@@ -289,7 +289,7 @@ pub fn compare_book<'a>(
     if work.len() < WORK_LENGTH {
         return Compared::Refused(Refusal::Room);
     }
-    table::reading::fill(text_area, 0, room, 0);
+    table::fill(text_area, 0, room, 0);
     let answer = compare_loaded(
         book,
         count,

@@ -189,7 +189,7 @@ pub extern "C" fn lubi_load(
     ensures { λ _. ⌜ now (labels .exit) ≡ loadOf (now (sheet .entry)) (now (labels .entry)) (now (targets .entry)) .labels ⌝ }
     ensures { λ _. ⌜ now (targets .exit) ≡ loadOf (now (sheet .entry)) (now (labels .entry)) (now (targets .entry)) .targets ⌝ }
 {
-    let found = table::load(sheet, labels, targets);
+    let found = loading::load(sheet, labels, targets);
     tell_states(answer, found)
 }
 
@@ -206,7 +206,7 @@ pub extern "C" fn lubi_write_sheet<'a>(
         ≡ packed toldCount (writeOf count (now (labels .entry)) (now (targets .entry)) (now (out .entry)) .answer) ⌝ }
     ensures { λ _. ⌜ now (out .exit) ≡ writeOf count (now (labels .entry)) (now (targets .entry)) (now (out .entry)) .out ⌝ }
 {
-    let found = table::write_sheet(count, labels, targets, out);
+    let found = writing::write_sheet(count, labels, targets, out);
     tell_bytes(answer, found)
 }
 

@@ -60,7 +60,7 @@ fn compare_in<'a>(
 {
     match book::check_book(book) {
         Checked::Refused(r) => lines::put_refused(r, out, 0),
-        Checked::Counts(_, _) => match table::load(sheet, labels, targets) {
+        Checked::Counts(_, _) => match loading::load(sheet, labels, targets) {
             Counted::Refused(r) => lines::put_refused(r, out, 0),
             Counted::States(count) => {
                 let answer = comparing::compare_book(book, count, labels, targets, area, work);
