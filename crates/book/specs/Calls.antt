@@ -1,7 +1,7 @@
 -- What the calls on books answer, for every input: the promises of check_book and rule_kind cite these.
 -- A refusal is the paper's by Refused.
 use Prim.Native.Nat.{ℕ}
-use mathlib.Core.Bool.{Bool, true, false, cond}
+use mathlib.Core.Bool.{cond}
 use mathlib.Core.List.{List}
 use lib.Dec.{ltb}
 use lib.ListN.{length, getD}

@@ -1,6 +1,6 @@
 -- The expression of a rule: its nodes in postfix order, worked off with a stack of expressions.
 -- Cat and Alt take two terms, the later one being b; Either is the Alt of its two one-byte ranges.
-use Prim.Native.Nat.{ℕ, _-_}
+use Prim.Native.Nat.{_-_}
 use mathlib.Core.List.{List, [], _∷_, map}
 use Rattle.number.specs.Limits.{capital}
 use Rattle.meaning.specs.Re.{Re}

@@ -9,7 +9,7 @@ use Rattle.number.specs.Refused.Answer.{got}
 use Rattle.meaning.specs.Sample.{W}
 use Rattle.book.specs.declared.Node.{Node}
 use Rattle.book.specs.declared.Node.the-variants.{Range, Cat, Star}
-use Rattle.book.specs.Book.{Rule, Book, writeNode, writeNodes, writeRule, writeRules, writeBook}
+use Rattle.book.specs.Book.{Book, writeNode, writeNodes, writeRule, writeRules, writeBook}
 use Rattle.book.specs.Reads.{readAfter, readNode, readNodes, readRules, book, readBook}
 use Rattle.book.specs.Expression.{stacked, run, meant}
 

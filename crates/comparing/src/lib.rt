@@ -258,7 +258,7 @@ fn compare_loaded<'a>(
     if !table::well_formed(count, labels, targets) {
         return Compared::Refused(Refusal::Loaded);
     }
-    let checked = book::check_book(book);
+    let checked = checking::check_book(book);
     match checked {
         Checked::Refused(r) => Compared::Refused(r),
         Checked::Counts(n, _) => {

@@ -123,7 +123,7 @@ fn tell_compared(answer: &mut [usize; CELLS], found: Compared) -> usize
 pub extern "C" fn lubi_check_book(book: &[u8], answer: &mut [usize; CELLS]) -> usize
     ensures { λ code. ⌜ left code (now (answer .exit)) ≡ packed toldSize (checkOf (now (book .entry))) ⌝ }
 {
-    let found = book::check_book(book);
+    let found = checking::check_book(book);
     tell_size(answer, found)
 }
 
@@ -132,7 +132,7 @@ pub extern "C" fn lubi_check_book(book: &[u8], answer: &mut [usize; CELLS]) -> u
 pub extern "C" fn lubi_rule_kind(book: &[u8], rule: usize, answer: &mut [usize; CELLS]) -> usize
     ensures { λ code. ⌜ left code (now (answer .exit)) ≡ packed toldKind (kindOf (now (book .entry)) rule) ⌝ }
 {
-    let found = book::rule_kind(book, rule);
+    let found = places::rule_kind(book, rule);
     tell_kind(answer, found)
 }
 

@@ -1,23 +1,23 @@
--- `book::find_rule` meets its contract: it calls itself for one rule less, and each return is one law of the way to a rule.
+-- `places::find_rule` meets its contract: it calls itself for one rule less, and each return is one law of the way to a rule.
 -- Assumes nothing.
 use borrow.Author.Needs.{needs}
 use Prim.Native.Nat.{ℕ, _-_, _<_}
 use native.Mathlib.Omega.{arith}
 use mathlib.Core.Path.{_≡_, sym, ap, _∙_}
 use Rattle.number.specs.Refused.Answer.{got}
 use Rattle.book.specs.Answers.{placeRead, readHead}
 use Rattle.book.specs.AnswerLaws.{value-told, refusal-given, place-told}
 use Rattle.book.specs.PlaceLaws.{head-few, find-head-refused, find-here, find-nodes-refused, find-onward}
 use borrow.Fn.Kinds.{In}
 use borrow.Fn.PlainCycle.{Measures, is, falls, and}
-use Rattle.book.proofs.find_rule.Reads as find-rule
-use Rattle.book.proofs.find_rule.Kinds as find-rule-kinds
-use Rattle.book.proofs.+find_rule.Lts-find_rule as find-rule-lts
-use Rattle.book.proofs.check_nodes.Reads as check-nodes-reads
-use Rattle.book.proofs.read_head.Reads as read-head-reads
+use Rattle.places.proofs.find_rule.Reads as find-rule
+use Rattle.places.proofs.find_rule.Kinds as find-rule-kinds
+use Rattle.places.proofs.+find_rule.Lts-find_rule as find-rule-lts
+use Rattle.checking.proofs.check_nodes.Reads as check-nodes-reads
+use Rattle.places.proofs.read_head.Reads as read-head-reads
 use Rattle.book.proofs.refusal_of.Reads as refusal-of-reads
-use Rattle.book.proofs.+find_rule.{statement}
-use Rattle.book.proofs.+find_rule.Tie.{close}
+use Rattle.places.proofs.+find_rule.{statement}
+use Rattle.places.proofs.+find_rule.Tie.{close}
 
 abbrev μ-find-rule : Measures 1 find-rule-kinds.ps ℕ
 μ-find-rule κs a = a .1 .1 .1 .0

@@ -1,14 +1,14 @@
--- `book::read_head` meets its contract: two fields, and one law a return.
+-- `places::read_head` meets its contract: two fields, and one law a return.
 -- Assumes nothing.
 use mathlib.Core.Path.{_≡_, sym}
 use Rattle.number.specs.Limits.{kinds}
 use Rattle.number.specs.Numbers.{field}
 use Rattle.number.specs.Refused.Answer.{got}
 use Rattle.book.specs.AnswerLaws.{value-told, refusal-given}
 use Rattle.book.specs.PlaceLaws.{head-kind-refused, head-count-refused, head-got}
 use borrow.Author.Needs.{needs}
-use Rattle.book.proofs.read_head.Statement.{statement}
-use Rattle.book.proofs.read_head.Tie as tie
+use Rattle.places.proofs.read_head.Statement.{statement}
+use Rattle.places.proofs.read_head.Tie as tie
 
 -- past the first `let .. else`
 kind-read : (c : tie.After-known-told)

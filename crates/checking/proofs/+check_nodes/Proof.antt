@@ -1,4 +1,4 @@
--- `book::check_nodes` meets its contract: it calls itself for one node less, and each return is one law of the nodes of a rule.
+-- `checking::check_nodes` meets its contract: it calls itself for one node less, and each return is one law of the nodes of a rule.
 -- Assumes nothing.
 use borrow.Author.Needs.{needs}
 use Prim.Native.Nat.{ℕ, _+_, _-_, _<_}
@@ -6,20 +6,20 @@ use native.Mathlib.Omega.{arith}
 use mathlib.Core.Path.{_≡_, refl, sym, ap, _∙_}
 use Rattle.number.specs.Refused.Answer.{got}
 use Rattle.number.specs.Numbers.{taken}
 use Rattle.book.specs.Reads.{readNode}
 use Rattle.book.specs.AnswerLaws.{value-told, node-told, node-refusal-given}
 use Rattle.book.specs.CodeLaws.{counted, counted-many, nodes-one-left, nodes-not-one, nodes-refused, nodes-lack}
 use Rattle.book.specs.CodeLaws.{nodes-rest-refused, nodes-rest-got}
 use borrow.Fn.Kinds.{In}
 use borrow.Fn.PlainCycle.{Measures, is, falls, and}
-use Rattle.book.proofs.check_nodes.Reads as check-nodes
-use Rattle.book.proofs.check_nodes.Kinds as check-nodes-kinds
-use Rattle.book.proofs.+check_nodes.Lts-check_nodes as check-nodes-lts
-use Rattle.book.proofs.node_refusal.Reads as node-refusal-reads
+use Rattle.checking.proofs.check_nodes.Reads as check-nodes
+use Rattle.checking.proofs.check_nodes.Kinds as check-nodes-kinds
+use Rattle.checking.proofs.+check_nodes.Lts-check_nodes as check-nodes-lts
+use Rattle.checking.proofs.node_refusal.Reads as node-refusal-reads
 use Rattle.book.proofs.read_node.Reads as read-node-reads
 use Rattle.book.proofs.takes.Reads as takes-reads
-use Rattle.book.proofs.+check_nodes.{statement}
-use Rattle.book.proofs.+check_nodes.Tie.{close}
+use Rattle.checking.proofs.+check_nodes.{statement}
+use Rattle.checking.proofs.+check_nodes.Tie.{close}
 
 abbrev μ-check-nodes : Measures 1 check-nodes-kinds.ps ℕ
 μ-check-nodes κs a = a .1 .1 .1 .0

@@ -1,15 +1,15 @@
--- `book::rule_kind` meets its contract: what checking told decides, and past it the rule is found.
+-- `places::rule_kind` meets its contract: what checking told decides, and past it the rule is found.
 -- Assumes nothing.
 use native.Mathlib.Omega.{arith}
 use mathlib.Core.Path.{_≡_, sym}
 use Rattle.number.specs.Refused.Outcome.{gives}
 use Rattle.number.specs.Numbers.{Bytes}
 use Rattle.book.specs.Calls.{checkOf}
 use Rattle.book.specs.AnswerLaws.{counts-told, check-refusal-told, place-told, place-refusal-told}
 use Rattle.book.specs.PlaceLaws.{kind-refused, kind-none, kind-lost, kind-found}
 use borrow.Author.Needs.{needs}
-use Rattle.book.proofs.rule_kind.Statement.{statement}
-use Rattle.book.proofs.rule_kind.Tie as tie
+use Rattle.places.proofs.rule_kind.Statement.{statement}
+use Rattle.places.proofs.rule_kind.Tie as tie
 
 -- past the first match
 size-told : (c : tie.After-known-told2)

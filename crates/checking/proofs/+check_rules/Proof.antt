@@ -1,4 +1,4 @@
--- `book::check_rules` meets its contract: it calls itself for one rule less, and each return is one law of the rules of a book.
+-- `checking::check_rules` meets its contract: it calls itself for one rule less, and each return is one law of the rules of a book.
 -- Assumes nothing.
 use borrow.Author.Needs.{needs}
 use Prim.Native.Nat.{ℕ, _+_, _-_, _<_, _≤_}
@@ -8,18 +8,18 @@ use Rattle.number.specs.Limits.{nodes}
 use Rattle.number.specs.Refused.Answer.{got}
 use Rattle.number.specs.Numbers.{taken}
 use Rattle.number.specs.NumberLaws.{field-read}
 use Rattle.book.specs.AnswerLaws.{value-told}
 use Rattle.book.specs.CodeLaws.{counted, summed, summed-most, HeadRead, rules-none, rules-kind-refused, rules-count-refused}
 use Rattle.book.specs.CodeLaws.{rules-over, rules-nodes-refused, rules-rest-refused, rules-rest-got}
 use borrow.Fn.Kinds.{In}
 use borrow.Fn.PlainCycle.{Measures, is, falls, and}
-use Rattle.book.proofs.check_rules.Reads as check-rules
-use Rattle.book.proofs.check_rules.Kinds as check-rules-kinds
-use Rattle.book.proofs.+check_rules.Lts-check_rules as check-rules-lts
-use Rattle.book.proofs.check_nodes.Reads as check-nodes-reads
+use Rattle.checking.proofs.check_rules.Reads as check-rules
+use Rattle.checking.proofs.check_rules.Kinds as check-rules-kinds
+use Rattle.checking.proofs.+check_rules.Lts-check_rules as check-rules-lts
+use Rattle.checking.proofs.check_nodes.Reads as check-nodes-reads
 use Rattle.number.proofs.read_field.Reads as read-field-reads
-use Rattle.book.proofs.+check_rules.{statement}
-use Rattle.book.proofs.+check_rules.Tie.{close}
+use Rattle.checking.proofs.+check_rules.{statement}
+use Rattle.checking.proofs.+check_rules.Tie.{close}
 
 abbrev μ-check-rules : Measures 1 check-rules-kinds.ps ℕ
 μ-check-rules κs a = a .1 .1 .1 .0
