@@ -2,7 +2,7 @@
 // Every input is taken; include/lubiranguk.h is the same list of calls in C's words.
 ghost use mathlib.Core.Path.{_≡_};
 ghost use Rattle.number.specs.Refused.{number, place};
-ghost use Rattle.book.specs.Calls.{checked, checkOf, told, kindOf};
+ghost use Rattle.book.specs.Calls.{checked, checkOf, kindTold, kindOf};
 ghost use Rattle.table.specs.Table.{wellFormed};
 ghost use Rattle.table.specs.Calls.{counted, wrote, loadOf, writeOf};
 ghost use Rattle.cutting.specs.Calls.{ended};
@@ -70,7 +70,7 @@ fn tell_size(answer: &mut [usize; CELLS], found: Checked) -> usize
 }
 
 fn tell_kind(answer: &mut [usize; CELLS], found: RuleKind) -> usize
-    ensures { λ code. ⌜ left code (now (answer .exit)) ≡ packed toldKind (told found) ⌝ }
+    ensures { λ code. ⌜ left code (now (answer .exit)) ≡ packed toldKind (kindTold found) ⌝ }
 {
     match found {
         RuleKind::Kind(n) => give(answer, KIND, n, 0, 0),

@@ -6,7 +6,6 @@ ghost use lib.Dec.{ltb};
 ghost use lib.ListN.{length, take, replicate};
 ghost use Rattle.number.specs.Lists.{written};
 ghost use Rattle.table.specs.Table.{all, wellFormed};
-
 use number::Refusal;
 use number::limits::BYTES;
 use number::limits::RULES;

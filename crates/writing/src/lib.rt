@@ -25,7 +25,8 @@ fn states_length<'a>(count: usize, i: usize, labels: &'a [u8], targets: &'a [u8]
         return 0;
     }
     let cell = i * BYTES;
-    let state = number::number_width(labels[i] as usize) + rows::row_length(targets, cell, cell + BYTES);
+    let state = number::number_width(labels[i] as usize)
+        + rows::row_length(targets, cell, cell + BYTES);
     state + states_length(count, i + 1, labels, targets)
 }
 
