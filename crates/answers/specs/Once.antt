@@ -11,7 +11,7 @@ use Rattle.number.specs.Numbers.{taken, readNumber, field}
 use Rattle.meaning.specs.Re.{Text}
 use Rattle.book.specs.declared.Checked.{Checked}
 use Rattle.book.specs.declared.RuleKind.{RuleKind}
-use Rattle.book.specs.Calls.{checked, told, checkOf, kindOf}
+use Rattle.book.specs.Calls.{checked, kindTold, checkOf, kindOf}
 use Rattle.table.specs.declared.Counted.{Counted}
 use Rattle.table.specs.declared.Written.{Written}
 use Rattle.table.specs.Table.{wellFormed}
@@ -40,7 +40,7 @@ one-field s at lo hi x y p q = taken-one x y (p ∙ sym q)
 pub one-check : (file : List ℕ) (x y : Checked) → checked x ≡ checkOf file → checked y ≡ checkOf file → x ≡ y
 one-check file x y p q = checked-one x y (p ∙ sym q)
 
-pub one-kind : (file : List ℕ) (i : ℕ) (x y : RuleKind) → told x ≡ kindOf file i → told y ≡ kindOf file i → x ≡ y
+pub one-kind : (file : List ℕ) (i : ℕ) (x y : RuleKind) → kindTold x ≡ kindOf file i → kindTold y ≡ kindOf file i → x ≡ y
 one-kind file i x y p q = told-one x y (p ∙ sym q)
 
 pub one-test : (s : ℕ) (l t : List ℕ) (x y : Bool) → x ≡ wellFormed s l t → y ≡ wellFormed s l t → x ≡ y

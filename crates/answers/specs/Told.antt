@@ -12,7 +12,7 @@ use Rattle.book.specs.declared.Checked.{Checked}
 use Rattle.book.specs.declared.Checked.the-variants.{Counts, Refused as Checked·refused}
 use Rattle.book.specs.declared.RuleKind.{RuleKind}
 use Rattle.book.specs.declared.RuleKind.the-variants.{Kind, NoRule, Unknown}
-use Rattle.book.specs.Calls.{Size, checked, told}
+use Rattle.book.specs.Calls.{Size, checked, kindTold}
 use Rattle.table.specs.declared.Counted.{Counted}
 use Rattle.table.specs.declared.Counted.the-variants.{States, Refused as Counted·refused}
 use Rattle.table.specs.declared.Written.{Written}
@@ -71,7 +71,7 @@ checked-one (Counts a b) (Checked·refused r) e = absurd (let z : _≡_ {A = ℕ
 checked-one (Checked·refused r) (Counts c d) e = absurd (let z : _≡_ {A = ℕ} 0 1 = cc in omega arith)
 checked-one (Checked·refused r) (Checked·refused s) e = cc
 
-pub told-one : (x y : RuleKind) → told x ≡ told y → x ≡ y
+pub told-one : (x y : RuleKind) → kindTold x ≡ kindTold y → x ≡ y
 told-one (Kind a) (Kind b) e = cc
 told-one (Kind a) NoRule e = absurd (let z : _≡_ {A = ℕ} 0 1 = cc in omega arith)
 told-one (Kind a) (Unknown r) e = absurd (let z : _≡_ {A = ℕ} 0 1 = cc in omega arith)

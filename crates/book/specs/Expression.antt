@@ -1,6 +1,6 @@
 -- The expression of a rule: its nodes in postfix order, worked off with a stack of expressions.
 -- Cat and Alt take two terms, the later one being b; Either is the Alt of its two one-byte ranges.
-use Prim.Native.Nat.{ℕ, _-_}
+use Prim.Native.Nat.{_-_}
 use mathlib.Core.List.{List, [], _∷_, map}
 use Rattle.number.specs.Limits.{capital}
 use Rattle.meaning.specs.Re.{Re}
@@ -27,9 +27,9 @@ stacked Alt stack = two Re.Alt stack
 stacked Star stack = one Re.Star stack
 stacked (Either x) stack = Re.Alt (Re.Range (x - capital) (x - capital)) (Re.Range x x) ∷ stack
 
-unfoldable pub run : List Node → List Re → List Re
-run [] stack = stack
-run (n ∷ ns) stack = run ns (stacked n stack)
+unfoldable pub runNodes : List Node → List Re → List Re
+runNodes [] stack = stack
+runNodes (n ∷ ns) stack = runNodes ns (stacked n stack)
 
 -- the term that is left
 abbrev pub top : List Re → Re
@@ -37,7 +37,7 @@ top [] = Re.Nothing
 top (r ∷ stack) = r
 
 abbrev pub expression : Rule → Re
-expression r = top (run (r .nodes) [])
+expression r = top (runNodes (r .nodes) [])
 
 -- the rules of a book, as a row of expressions
 abbrev pub meant : Book → List Re

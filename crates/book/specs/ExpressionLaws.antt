@@ -10,7 +10,7 @@ use Rattle.book.specs.declared.Node.{Node}
 use Rattle.book.specs.declared.Node.the-variants.{Nothing, Empty, Range, Cat, Alt, Star, Either}
 use Rattle.book.specs.Book.{Rule, Book, takes}
 use Rattle.book.specs.Valid.{Leaves, ValidRule}
-use Rattle.book.specs.Expression.{one, two, stacked, run, top, expression, meant}
+use Rattle.book.specs.Expression.{one, two, stacked, runNodes, top, expression, meant}
 use Rattle.book.specs.Places.{noRule, ruleOf}
 
 -- ---- one term is left
@@ -34,8 +34,8 @@ stacked-length Alt stack h = two-length Re.Alt stack h
 stacked-length Star stack h = omega (arith, one-length Re.Star stack h)
 stacked-length (Either x) stack h = omega arith
 
-pub run-length : (ns : List Node) (stack : List Re) (terms : ℕ) → Leaves terms ns → length stack ≡ terms → length (run ns stack) ≡ 1
-unfolding run
+pub run-length : (ns : List Node) (stack : List Re) (terms : ℕ) → Leaves terms ns → length stack ≡ terms → length (runNodes ns stack) ≡ 1
+unfolding runNodes
 run-length [] stack terms h e = e ∙ h
 run-length (n ∷ ns) stack terms h e =
     let enough : takes n ≤ length stack = omega (arith, h .1) in
@@ -47,8 +47,8 @@ top-alone [] e = absurd (omega arith)
 top-alone (a ∷ []) e = refl
 top-alone (a ∷ b ∷ stack) e = absurd (omega arith)
 
-pub run-whole : (r : Rule) → ValidRule r → run (r .nodes) [] ≡ expression r ∷ []
-run-whole r h = top-alone (run (r .nodes) []) (run-length (r .nodes) [] 0 (h .leaves) refl)
+pub run-whole : (r : Rule) → ValidRule r → runNodes (r .nodes) [] ≡ expression r ∷ []
+run-whole r h = top-alone (runNodes (r .nodes) []) (run-length (r .nodes) [] 0 (h .leaves) refl)
 
 -- ---- its size
 
@@ -86,8 +86,8 @@ stacked-sizes Star stack = one-sizes stack
 stacked-sizes (Either x) stack = omega arith
 
 pub run-sizes : (ns : List Node) (stack : List Re)
-    → sizes (run ns stack) + length stack ≤ sizes stack + 2 * length ns + length (run ns stack)
-unfolding run
+    → sizes (runNodes ns stack) + length stack ≤ sizes stack + 2 * length ns + length (runNodes ns stack)
+unfolding runNodes
 run-sizes [] stack = omega arith
 run-sizes (n ∷ ns) stack = omega (arith, stacked-sizes n stack, run-sizes ns (stacked n stack))
 
@@ -95,10 +95,10 @@ run-sizes (n ∷ ns) stack = omega (arith, stacked-sizes n stack, run-sizes ns (
 pub expression-size : (r : Rule) → ValidRule r → size (expression r) ≤ 2 * length (r .nodes) + 1
 unfolding sizes
 expression-size r h =
-    let whole : run (r .nodes) [] ≡ expression r ∷ [] = run-whole r h in
+    let whole : runNodes (r .nodes) [] ≡ expression r ∷ [] = run-whole r h in
     let bound = run-sizes (r .nodes) [] in
-    let all : sizes (run (r .nodes) []) ≡ size (expression r) + 0 = ap sizes whole in
-    let left : length (run (r .nodes) []) ≡ 1 = ap length whole in
+    let all : sizes (runNodes (r .nodes) []) ≡ size (expression r) + 0 = ap sizes whole in
+    let left : length (runNodes (r .nodes) []) ≡ 1 = ap length whole in
     omega arith
 
 pub expression-small : (r : Rule) → ValidRule r → size (expression r) ≤ 3 * length (r .nodes)
@@ -107,5 +107,5 @@ expression-small r h = omega (arith, expression-size r h, h .some)
 -- ---- a book's row of expressions, rule by rule
 
 pub meant-at : (b : Book) (i : ℕ) → getD (meant b) i Re.Nothing ≡ expression (ruleOf b i)
-unfolding run
+unfolding runNodes
 meant-at b i = List·getD-map expression (b .rules) i noRule

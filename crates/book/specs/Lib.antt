@@ -1,12 +1,12 @@
--- Rule books. Definitions, in reading order: Book, Reads, Valid, Expression, Calls, Sample, Places, Answers; the other files prove things of these.
+-- Rule books. Definitions, in reading order: Book, Reads, Valid, Expression, Places, Calls, Sample, Answers; the other files prove things of these.
 -- Main gathers the theorems that are bought.
 pub mod Book
 pub mod Reads
 pub mod Valid
 pub mod Expression
+pub mod Places
 pub mod Calls
 pub mod Sample
-pub mod Places
 pub mod Answers
 pub mod ReadLawsSteps
 pub mod ReadLawsWritten

@@ -15,7 +15,7 @@ use Rattle.book.specs.declared.Node.{Node}
 use Rattle.book.specs.Book.{Rule, Book, writeNode, writeNodes, writeRules, writeBook}
 use Rattle.book.specs.Reads.{readNode, readBook}
 use Rattle.book.specs.Valid.{Within, ValidRule, ValidBook}
-use Rattle.book.specs.Expression.{run, expression, meant}
+use Rattle.book.specs.Expression.{runNodes, expression, meant}
 use Rattle.book.specs.Sample.{wBytes, wBook, w-length, w-reads, w-writes, w-means}
 use Rattle.book.specs.Places.{ruleOf, nodesAt}
 use Rattle.book.specs.ReadLawsWritten.{node-written}
@@ -51,7 +51,7 @@ the-refusals file r e =
     record { one-of-five = (f .some, f .few); near = f .near; rightly = λ b. book-none file r b e }
 
 -- the nodes of a valid rule leave its expression and nothing else, and as a tree it has at most twice as many nodes, and one
-pub the-expression : (r : Rule) → ValidRule r → (run (r .nodes) [] ≡ expression r ∷ []) × (size (expression r) ≤ 2 * length (r .nodes) + 1)
+pub the-expression : (r : Rule) → ValidRule r → (runNodes (r .nodes) [] ≡ expression r ∷ []) × (size (expression r) ≤ 2 * length (r .nodes) + 1)
 the-expression r h = (run-whole r h, expression-size r h)
 
 -- where the nodes of rule i stand in a book that was read, and what follows them

@@ -1,6 +1,6 @@
 -- Where a rule's nodes begin: the code's way there, return by return, and that it ends at the place that Places defines.
 -- From there the nodes are read one by one; ReadLawsPlaces says how each stands.
-use Prim.Native.Nat.{ℕ, zero, suc, _+_, _-_, _<_, _≤_}
+use Prim.Native.Nat.{ℕ, zero, suc, _+_, _<_, _≤_}
 use native.Mathlib.Omega.{arith}
 use mathlib.Core.Path.{_≡_, refl, sym, ap, _∙_}
 use mathlib.Core.List.{List}

@@ -1,4 +1,4 @@
--- Where the rules of a book stand in its file: a definition for the laws of ReadLawsPlaces and for the code that walks a book.
+-- A rule of a book by its number, and where it stands in the book's file: for the calls, the laws of ReadLawsPlaces and the code that walks a book.
 -- Each place is the length of what is written before it.
 use Prim.Native.Nat.{ℕ, _+_}
 use mathlib.Core.List.{[]}

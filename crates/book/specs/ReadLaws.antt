@@ -18,7 +18,7 @@ use Rattle.book.specs.declared.Node.{Node}
 use Rattle.book.specs.Book.{Rule, Book, total, writeNode, writeNodes, writeRules, writeBook}
 use Rattle.book.specs.Reads.{readNode, readNodes, readRules, book, readBook}
 use Rattle.book.specs.Valid.{Within, Leaves, AllValid, ValidBook}
-use Rattle.book.specs.ReadLawsSteps.{clash, Holds, Stands, Fault, first, second, past-both}
+use Rattle.book.specs.ReadLawsSteps.{clash, ByAnswer, Stands, Fault, first, second, past-both}
 use Rattle.book.specs.ReadLawsWritten.{rules-written}
 use Rattle.book.specs.ReadLawsRead.{ReadsNode, ReadsNodes, ReadsRules, ReadsBook, node-holds, nodes-holds, rules-holds, book-holds}
 
@@ -53,7 +53,7 @@ pub record BookIs (file : List ℕ) (b : Book) (after : ℕ) : Type 0 where
 
 pub book-read : (file : List ℕ) (b : Book) (after : ℕ) → Bytes file → readBook file ≡ got b after → BookIs file b after
 book-read file b after all e =
-    let h : ReadsBook file b after = subst (Holds (ReadsBook file) (Fault file)) e (book-holds file) in
+    let h : ReadsBook file b after = subst (ByAnswer (ReadsBook file) (Fault file)) e (book-holds file) in
     let s : Stands file 0 (writeBook b) after = h .read .stands all in
     let nothing : drop after file ≡ [] = rw (h .whole) (drop-length file) in
     record {
@@ -78,7 +78,7 @@ book-one b c hb hc e =
 -- what is read is valid, and read to the end, even of a list that is none of bytes
 pub book-valid : (file : List ℕ) (b : Book) (after : ℕ) → readBook file ≡ got b after → ValidBook b × (after ≡ length file)
 book-valid file b after e =
-    let h : ReadsBook file b after = subst (Holds (ReadsBook file) (Fault file)) e (book-holds file) in
+    let h : ReadsBook file b after = subst (ByAnswer (ReadsBook file) (Fault file)) e (book-holds file) in
     (h .valid, h .whole)
 
 -- ---- refusals
@@ -89,7 +89,7 @@ book-none file r b e valid same = clash (sym e ∙ sym (ap readBook same) ∙ bo
 
 -- a refusal is one of the first five, and its place is within the file or at its end
 pub book-refused : (file : List ℕ) (r : Refusal) → readBook file ≡ refused r → Fault file r
-book-refused file r e = subst (Holds (ReadsBook file) (Fault file)) e (book-holds file)
+book-refused file r e = subst (ByAnswer (ReadsBook file) (Fault file)) e (book-holds file)
 
 -- ---- the parts, for code that reads them one by one
 
@@ -100,7 +100,7 @@ pub record NodeIs (file : List ℕ) (at : ℕ) (n : Node) (next : ℕ) : Type 0 
 pub node-read : (file : List ℕ) (v at : ℕ) (n : Node) (next : ℕ) → Bytes file → at ≤ length file → readNode file v at ≡ got n next
     → NodeIs file at n next
 node-read file v at n next all h e =
-    let k : ReadsNode file at n next = subst (Holds (ReadsNode file at) (Fault file)) e (node-holds file v at h) in
+    let k : ReadsNode file at n next = subst (ByAnswer (ReadsNode file at) (Fault file)) e (node-holds file v at h) in
     record { within = k .within; stands = k .read .stands all }
 
 pub record NodesAre (file : List ℕ) (k terms at : ℕ) (ns : List Node) (next : ℕ) : Type 0 where
@@ -112,7 +112,7 @@ pub nodes-read : (file : List ℕ) (v k terms at : ℕ) (ns : List Node) (next :
     → readNodes file v k terms at ≡ got ns next → NodesAre file k terms at ns next
 nodes-read file v k terms at ns next all h e =
     let r : ReadsNodes file k terms at ns next =
-    subst (Holds (ReadsNodes file k terms at) (Fault file)) e (nodes-holds file v k terms at h) in
+    subst (ByAnswer (ReadsNodes file k terms at) (Fault file)) e (nodes-holds file v k terms at h) in
     record { many = r .many; leaves = r .leaves; stands = r .read .stands all }
 
 pub record RulesAre (file : List ℕ) (k used at : ℕ) (rs : List Rule) (next : ℕ) : Type 0 where
@@ -125,5 +125,5 @@ pub rules-read : (file : List ℕ) (v k used at : ℕ) (rs : List Rule) (next : 
     → readRules file v k used at ≡ got rs next → RulesAre file k used at rs next
 rules-read file v k used at rs next all u h e =
     let r : ReadsRules file k used at rs next =
-    subst (Holds (ReadsRules file k used at) (Fault file)) e (rules-holds file v k used at u h) in
+    subst (ByAnswer (ReadsRules file k used at) (Fault file)) e (rules-holds file v k used at u h) in
     record { many = r .many; valid = r .valid; small = r .small; stands = r .read .stands all }

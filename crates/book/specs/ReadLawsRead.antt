@@ -17,7 +17,7 @@ use Rattle.book.specs.declared.Node.{Node}
 use Rattle.book.specs.Book.{Rule, Book, takes, total, writeNode, writeNodes, writeRule, writeRules, writeBook}
 use Rattle.book.specs.Reads.{readAfter, readNode, readNodes, readRules, book, readBook}
 use Rattle.book.specs.Valid.{Within, Leaves, AllValid, ValidBook}
-use Rattle.book.specs.ReadLawsSteps.{Holds, on, past-test, Read, read-none, read-more, Fault, on-field}
+use Rattle.book.specs.ReadLawsSteps.{ByAnswer, on, past-test, Read, read-none, read-more, Fault, on-field}
 
 pub record ReadsNode (file : List ℕ) (at : ℕ) (n : Node) (next : ℕ) : Type 0 where
   pub within : Within n
@@ -50,7 +50,7 @@ one-left terms = go (eqb terms 1) refl
 module _ (file : List ℕ) where
   -- from a node's code on, which stands before
   after-holds : (v code start at : ℕ) → code ≤ lastCode v → Read file start (writeNumber code) at
-      → Holds (ReadsNode file start) (Fault file) (readAfter file code at)
+      → ByAnswer (ReadsNode file start) (Fault file) (readAfter file code at)
   unfolding readAfter writeNode
   after-holds v zero start at h s = record { within = tt; read = s }
   after-holds v (suc zero) start at h s = record { within = tt; read = s }
@@ -69,13 +69,13 @@ module _ (file : List ℕ) where
       record { within = (f .low, f .high); read = read-more file (writeNumber 6) (writeNumber x) s (f .read) }
   after-holds v (suc (suc (suc (suc (suc (suc (suc code))))))) start at h s = absurd (omega arith)
 
-  pub node-holds : (v at : ℕ) → at ≤ length file → Holds (ReadsNode file at) (Fault file) (readNode file v at)
+  pub node-holds : (v at : ℕ) → at ≤ length file → ByAnswer (ReadsNode file at) (Fault file) (readNode file v at)
   unfolding readNode
   node-holds v at h =
       on-field (ReadsNode file at) file 0 (lastCode v) at _ h λ code next f.
       after-holds v code at next (f .high) (f .read)
 
-  pub nodes-holds : (v k terms at : ℕ) → at ≤ length file → Holds (ReadsNodes file k terms at) (Fault file) (readNodes file v k terms at)
+  pub nodes-holds : (v k terms at : ℕ) → at ≤ length file → ByAnswer (ReadsNodes file k terms at) (Fault file) (readNodes file v k terms at)
   unfolding readNodes writeNodes
   nodes-holds v zero terms at h =
       past-test (ReadsNodes file 0 terms at) (Fault file) (not (eqb terms 1)) (Stack at) at (answer [])
@@ -95,7 +95,7 @@ module _ (file : List ℕ) where
       }
 
   pub rules-holds : (v k used at : ℕ) → used ≤ nodes → at ≤ length file
-      → Holds (ReadsRules file k used at) (Fault file) (readRules file v k used at)
+      → ByAnswer (ReadsRules file k used at) (Fault file) (readRules file v k used at)
   unfolding readRules writeRules writeRule total
   rules-holds v zero used at u h = record { many = refl; valid = tt; small = omega arith; read = read-none file at h }
   rules-holds v (suc k) used at u h =
@@ -120,7 +120,7 @@ module _ (file : List ℕ) where
             (o .read);
       }
 
-  pub book-holds : Holds (ReadsBook file) (Fault file) (readBook file)
+  pub book-holds : ByAnswer (ReadsBook file) (Fault file) (readBook file)
   unfolding book writeBook
   book-holds =
       on-field (ReadsBook file) file version lastVersion 0 _ (omega arith) λ v there f.

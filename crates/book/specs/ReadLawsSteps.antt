@@ -26,18 +26,18 @@ clash e = let z : _≡_ {A = ℕ} 0 1 = cc in omega arith
 -- ---- claims about answers
 
 -- what is got fulfils P, with the place after it; a refusal fulfils R
-abbrev pub Holds : {A : Type 0} → (A → ℕ → Type 0) → (Refusal → Type 0) → Answer A → Type 0
-Holds P R (got x next) = P x next
-Holds P R (refused r) = R r
+abbrev pub ByAnswer : {A : Type 0} → (A → ℕ → Type 0) → (Refusal → Type 0) → Answer A → Type 0
+ByAnswer P R (got x next) = P x next
+ByAnswer P R (refused r) = R r
 
 -- on past an answer, past a test, past the end
 pub on : {A B : Type 0} (P : A → ℕ → Type 0) (Q : B → ℕ → Type 0) (R : Refusal → Type 0) (m : Answer A) (f : A → Reader B)
-    → Holds P R m → ((x : A) (next : ℕ) → P x next → Holds Q R (f x next)) → Holds Q R (onward m f)
+    → ByAnswer P R m → ((x : A) (next : ℕ) → P x next → ByAnswer Q R (f x next)) → ByAnswer Q R (onward m f)
 on P Q R (got x next) f h k = k x next h
 on P Q R (refused r) f h k = h
 
 pub past-test : {B : Type 0} (Q : B → ℕ → Type 0) (R : Refusal → Type 0) (test : Bool) (r : Refusal) (at : ℕ) (n : Reader B)
-    → R r → (test ≡ false → Holds Q R (n at)) → Holds Q R (onward (cond test (refused r) (got tt at)) (λ (_ : Unit {0}). n))
+    → R r → (test ≡ false → ByAnswer Q R (n at)) → ByAnswer Q R (onward (cond test (refused r) (got tt at)) (λ (_ : Unit {0}). n))
 past-test Q R true r at n h k = h
 past-test Q R false r at n h k = k refl
 
@@ -116,7 +116,7 @@ number-inside s at n next = go (read-way s at)
     go (over a b c h2 f g i k l m) e = absurd (clash e)
 
 pub field-holds : (file : List ℕ) (lo hi at : ℕ) → at ≤ length file
-    → Holds (λ n next. Field file lo hi at n next) (Fault file) (field file lo hi at)
+    → ByAnswer (λ n next. Field file lo hi at n next) (Fault file) (field file lo hi at)
 field-holds file lo hi at h = go (field file lo hi at) refl
   where
     fault : (r : Refusal) → (r ≡ Short at) ⊎ ((r ≡ Number at) ⊎ (r ≡ Range at)) → Fault file r
@@ -128,7 +128,7 @@ field-holds file lo hi at h = go (field file lo hi at) refl
     stands n next e all =
         let w = written-read file at n next all e in record { stands = w .stands; after = w .after; inside = w .inside }
 
-    go : (x : Answer ℕ) → field file lo hi at ≡ x → Holds (λ n next. Field file lo hi at n next) (Fault file) x
+    go : (x : Answer ℕ) → field file lo hi at ≡ x → ByAnswer (λ n next. Field file lo hi at n next) (Fault file) x
     go (refused r) e = fault r (field-refusal file lo hi at r e)
     go (got n next) e =
         let f = field-read file lo hi at n next e in
@@ -136,6 +136,6 @@ field-holds file lo hi at h = go (field file lo hi at) refl
 
 -- on past a field
 pub on-field : {B : Type 0} (Q : B → ℕ → Type 0) (file : List ℕ) (lo hi at : ℕ) (f : ℕ → Reader B) → at ≤ length file
-    → ((n next : ℕ) → Field file lo hi at n next → Holds Q (Fault file) (f n next))
-    → Holds Q (Fault file) (onward (field file lo hi at) f)
+    → ((n next : ℕ) → Field file lo hi at n next → ByAnswer Q (Fault file) (f n next))
+    → ByAnswer Q (Fault file) (onward (field file lo hi at) f)
 on-field Q file lo hi at f h k = on (Field file lo hi at) Q (Fault file) (field file lo hi at) f (field-holds file lo hi at h) k

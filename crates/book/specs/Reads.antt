@@ -1,7 +1,7 @@
 -- How a rule book is read: every refusal of document 01 at its place, in the order in which the bytes come.
 -- Reading goes down the counts that the book gives, so it ends.
 use Prim.Native.Nat.{ℕ, zero, suc, _+_, _-_}
-use mathlib.Core.Bool.{Bool, true, false, not}
+use mathlib.Core.Bool.{not}
 use mathlib.Core.List.{List, [], _∷_}
 use lib.Dec.{ltb, eqb}
 use Rattle.number.specs.declared.Refusal.the-variants.{Range as OutOfRange, Stack}

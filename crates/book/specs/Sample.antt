@@ -9,9 +9,9 @@ use Rattle.number.specs.Refused.Answer.{got}
 use Rattle.meaning.specs.Sample.{W}
 use Rattle.book.specs.declared.Node.{Node}
 use Rattle.book.specs.declared.Node.the-variants.{Range, Cat, Star}
-use Rattle.book.specs.Book.{Rule, Book, writeNode, writeNodes, writeRule, writeRules, writeBook}
+use Rattle.book.specs.Book.{Book, writeNode, writeNodes, writeRule, writeRules, writeBook}
 use Rattle.book.specs.Reads.{readAfter, readNode, readNodes, readRules, book, readBook}
-use Rattle.book.specs.Expression.{stacked, run, meant}
+use Rattle.book.specs.Expression.{stacked, runNodes, meant}
 
 unfoldable pub wBytes : List ℕ
 wBytes =
@@ -49,5 +49,5 @@ unfolding wBytes wBook writeBook writeRules writeRule writeNodes writeNode write
 w-writes = refl
 
 pub w-means : meant wBook ≡ W
-unfolding wBook run stacked
+unfolding wBook runNodes stacked
 w-means = refl

@@ -1,26 +1,16 @@
-// Rule books: checked whole, refused exactly where document 01 says, and read node by node for the layers above.
-// Public calls take any bytes and promise the paper's answer for each; two inner functions say what they ask, so that sums fit.
+// Rule books: the types that calls on books answer with, and the nodes of a rule read one by one.
+// Readers take any bytes and promise the paper's answer for each; books are checked in the crate checking, their rules found in places.
 ghost use mathlib.Core.Path.{_≡_};
-ghost use Prim.Native.Nat.{_+_, _≤_};
-ghost use lib.ListN.{length};
-ghost use Rattle.number.specs.Limits.{lastCode, nodes};
-ghost use Rattle.number.specs.Numbers.{taken};
-ghost use Rattle.number.specs.Reading.{mapAnswer};
-ghost use Rattle.book.specs.Book.{takes as takesOf, total};
-ghost use Rattle.book.specs.Reads.{readAfter, readNode, readNodes, readRules};
-ghost use Rattle.book.specs.Answers.{nodeRead, placeRead, refusalOf, nodeRefusal};
-ghost use Rattle.book.specs.Answers.{readHead, findRule, findFrom, nowhere as noPlace, placeOf};
-ghost use Rattle.book.specs.Calls.{checked, checkOf, told, kindOf};
+ghost use Rattle.number.specs.Limits.{lastCode};
+ghost use Rattle.book.specs.Book.{takes as takesOf};
+ghost use Rattle.book.specs.Reads.{readAfter, readNode};
+ghost use Rattle.book.specs.Answers.{nodeRead, refusalOf};
 use number::Refusal;
 use number::Taken;
 use number::limits::FIRST_LETTER;
-use number::limits::KINDS;
 use number::limits::LAST_BYTE;
 use number::limits::LAST_CODE;
 use number::limits::LAST_LETTER;
-use number::limits::NODES;
-use number::limits::RULES;
-use number::limits::VERSION;
 use number::read_field;
 
 // A node of a rule, in postfix order: one of seven kinds.
@@ -61,69 +51,9 @@ pub struct RulePlace {
 }
 
 // Where a rule's nodes begin, or why there is no such place.
-enum PlaceRead {
+pub enum PlaceRead {
     Place(RulePlace),
     Refused(Refusal),
-}
-
-// How many rules the book has and how many nodes in all, or why it is refused.
-pub fn check_book(book: &[u8]) -> Checked
-    ensures { λ r. ⌜ checked r ≡ checkOf (now (book .entry)) ⌝ }
-{
-    let version = read_field(book, 0, VERSION, VERSION);
-    let Taken::Value(v, at_rules) = version else {
-        return Checked::Refused(refusal_of(version));
-    };
-    let rules = read_field(book, at_rules, 1, RULES);
-    let Taken::Value(n, first) = rules else {
-        return Checked::Refused(refusal_of(rules));
-    };
-    let all = check_rules(book, first, v, n, 0);
-    let Taken::Value(nodes, after) = all else {
-        return Checked::Refused(refusal_of(all));
-    };
-    if after < book.len() {
-        return Checked::Refused(Refusal::Tail(after));
-    }
-    Checked::Counts(n, nodes)
-}
-
-// The kind of a rule. Past the check the rule is found; a refusal would still be told with its place.
-pub fn rule_kind(book: &[u8], rule: usize) -> RuleKind
-    ensures { λ r. ⌜ told r ≡ kindOf (now (book .entry)) rule ⌝ }
-{
-    let counted = check_book(book);
-    match counted {
-        Checked::Refused(r) => RuleKind::Unknown(r),
-        Checked::Counts(n, _) => {
-            if n <= rule {
-                return RuleKind::NoRule;
-            }
-            let place = find_from(book, rule);
-            match place {
-                PlaceRead::Refused(r) => RuleKind::Unknown(r),
-                PlaceRead::Place(p) => RuleKind::Kind(p.kind),
-            }
-        }
-    }
-}
-
-// Where a rule's nodes begin, for the layers that read them one by one; all 0 where the book has no such rule or is refused.
-pub fn rule_place(book: &[u8], rule: usize) -> RulePlace
-    ensures { λ r. ⌜ r ≡ placeOf (now (book .entry)) rule ⌝ }
-{
-    let counted = check_book(book);
-    let Checked::Counts(n, _) = counted else {
-        return nowhere();
-    };
-    if n <= rule {
-        return nowhere();
-    }
-    let place = find_from(book, rule);
-    match place {
-        PlaceRead::Place(p) => p,
-        PlaceRead::Refused(_) => nowhere(),
-    }
 }
 
 // The node at a place of a book of that version; any place will do, since whatever stands there is tested.
@@ -154,33 +84,12 @@ pub fn takes(n: Node) -> usize
 }
 
 // The refusal of a number that was not read; no caller has one that was.
-fn refusal_of(t: Taken) -> Refusal
+pub fn refusal_of(t: Taken) -> Refusal
     ensures { λ r. ⌜ r ≡ refusalOf t ⌝ }
 {
     match t {
         Taken::Value(_, _) => Refusal::Input,
         Taken::Refused(r) => r,
-    }
-}
-
-// The refusal of a node that was not read, as above.
-fn node_refusal(n: NodeRead) -> Refusal
-    ensures { λ r. ⌜ r ≡ nodeRefusal n ⌝ }
-{
-    match n {
-        NodeRead::At(_, _) => Refusal::Input,
-        NodeRead::Refused(r) => r,
-    }
-}
-
-// The place of no rule.
-fn nowhere() -> RulePlace
-    ensures { λ r. ⌜ r ≡ noPlace ⌝ }
-{
-    RulePlace {
-        kind: 0,
-        nodes: 0,
-        at: 0,
     }
 }
 
@@ -230,114 +139,4 @@ fn read_after(book: &[u8], at: usize, code: usize) -> NodeRead
         5 => NodeRead::At(Node::Star, at),
         _ => read_letter(book, at),
     }
-}
-
-// So many nodes more, where so many terms stand: how many nodes those were, and the place after them.
-// The terms grow by one a node at most, so the limit on nodes keeps their count small.
-fn check_nodes(book: &[u8], at: usize, version: usize, left: usize, terms: usize) -> Taken
-    requires { ⌜ terms + left ≤ nodes ⌝ }
-    ensures { λ r. ⌜ taken r ≡ mapAnswer length (readNodes (now (book .entry)) version left terms at) ⌝ }
-{
-    if left == 0 {
-        if terms == 1 {
-            return Taken::Value(0, at);
-        }
-        return Taken::Refused(Refusal::Stack(at));
-    }
-    let node = read_node(book, at, version);
-    let NodeRead::At(n, next) = node else {
-        return Taken::Refused(node_refusal(node));
-    };
-    let needs = takes(n);
-    if terms < needs {
-        return Taken::Refused(Refusal::Stack(at));
-    }
-    let rest = check_nodes(book, next, version, left - 1, terms + 1 - needs);
-    let Taken::Value(more, after) = rest else {
-        return rest;
-    };
-    Taken::Value(more + 1, after)
-}
-
-// So many rules more, where so many nodes have been read: how many nodes they have, and the place after them.
-// The sum is tested as each count is read, before the nodes are, and refused at that count.
-fn check_rules(book: &[u8], at: usize, version: usize, left: usize, used: usize) -> Taken
-    requires { ⌜ used ≤ nodes ⌝ }
-    ensures { λ r. ⌜ taken r ≡ mapAnswer total (readRules (now (book .entry)) version left used at) ⌝ }
-{
-    if left == 0 {
-        return Taken::Value(0, at);
-    }
-    let kind = read_field(book, at, 0, KINDS);
-    let Taken::Value(_, at_count) = kind else {
-        return kind;
-    };
-    let count = read_field(book, at_count, 1, NODES);
-    let Taken::Value(m, first) = count else {
-        return count;
-    };
-    if NODES < used + m {
-        return Taken::Refused(Refusal::Range(at_count));
-    }
-    let nodes = check_nodes(book, first, version, m, 0);
-    let Taken::Value(_, next) = nodes else {
-        return nodes;
-    };
-    let rest = check_rules(book, next, version, left - 1, used + m);
-    let Taken::Value(more, after) = rest else {
-        return rest;
-    };
-    Taken::Value(m + more, after)
-}
-
-// The kind and the node count of the rule at a place, and where its nodes begin.
-fn read_head(book: &[u8], at: usize) -> PlaceRead
-    ensures { λ r. ⌜ placeRead r ≡ readHead (now (book .entry)) at ⌝ }
-{
-    let kind = read_field(book, at, 0, KINDS);
-    let Taken::Value(k, at_count) = kind else {
-        return PlaceRead::Refused(refusal_of(kind));
-    };
-    let count = read_field(book, at_count, 1, NODES);
-    let Taken::Value(m, first) = count else {
-        return PlaceRead::Refused(refusal_of(count));
-    };
-    PlaceRead::Place(RulePlace {
-        kind: k,
-        nodes: m,
-        at: first,
-    })
-}
-
-// The rule that stands so many rules further on.
-fn find_rule(book: &[u8], at: usize, version: usize, left: usize) -> PlaceRead
-    ensures { λ r. ⌜ placeRead r ≡ findRule (now (book .entry)) version left at ⌝ }
-{
-    let head = read_head(book, at);
-    let PlaceRead::Place(p) = head else {
-        return head;
-    };
-    if left == 0 {
-        return head;
-    }
-    let nodes = check_nodes(book, p.at, version, p.nodes, 0);
-    let Taken::Value(_, next) = nodes else {
-        return PlaceRead::Refused(refusal_of(nodes));
-    };
-    find_rule(book, next, version, left - 1)
-}
-
-// A rule of a whole book, by its number.
-fn find_from(book: &[u8], rule: usize) -> PlaceRead
-    ensures { λ r. ⌜ placeRead r ≡ findFrom (now (book .entry)) rule 0 ⌝ }
-{
-    let version = read_field(book, 0, VERSION, VERSION);
-    let Taken::Value(v, at_rules) = version else {
-        return PlaceRead::Refused(refusal_of(version));
-    };
-    let rules = read_field(book, at_rules, 1, RULES);
-    let Taken::Value(_, first) = rules else {
-        return PlaceRead::Refused(refusal_of(rules));
-    };
-    find_rule(book, first, v, rule)
 }

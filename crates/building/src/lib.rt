@@ -21,7 +21,7 @@ use number::limits::TABLE_CELLS;
 use pool::INDEX_CELLS;
 use steps::Stepped;
 use table::Counted;
-use table::reading::fill;
+use table::fill;
 use vector::layout::WORK_LENGTH;
 
 // The row of item `i` goes into its 256 targets, run by run; the answer tells what is held then, and no number.
@@ -158,7 +158,7 @@ fn build_book(book: &[u8], cells: &mut [u64], labels: &mut [u8], targets: &mut [
     requires { ⌜ Roomy (now labels) (now targets) (now cells) ⌝ }
     ensures { λ r. ⌜ Tabled (buildBook (now (book .entry))) (now (labels .exit)) (now (targets .exit)) r ⌝ }
 {
-    let checked = book::check_book(book);
+    let checked = checking::check_book(book);
     match checked {
         Checked::Refused(r) => Counted::Refused(r),
         Checked::Counts(n, _) => build_rules(book, n, cells, labels, targets),

@@ -258,7 +258,7 @@ fn compare_loaded<'a>(
     if !table::well_formed(count, labels, targets) {
         return Compared::Refused(Refusal::Loaded);
     }
-    let checked = book::check_book(book);
+    let checked = checking::check_book(book);
     match checked {
         Checked::Refused(r) => Compared::Refused(r),
         Checked::Counts(n, _) => {
@@ -289,7 +289,7 @@ pub fn compare_book<'a>(
     if work.len() < WORK_LENGTH {
         return Compared::Refused(Refusal::Room);
     }
-    table::reading::fill(text_area, 0, room, 0);
+    table::fill(text_area, 0, room, 0);
     let answer = compare_loaded(
         book,
         count,

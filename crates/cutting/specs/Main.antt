@@ -1,20 +1,20 @@
 -- The theorems of cutting that are bought, together; each is proved in the file that its proof names.
 -- To believe them, read the definitions: Steps, Cut, Tiles, Calls, and meaning's Words.
-use Prim.Native.Nat.{ℕ, zero, suc, _+_, _-_, _<_, _≤_}
-use mathlib.Core.Path.{_≡_, refl, sym, ap, _∙_}
-use mathlib.Core.List.{List, [], _∷_}
+use Prim.Native.Nat.{ℕ, zero, suc, _+_, _<_, _≤_}
+use mathlib.Core.Path.{_≡_, refl}
+use mathlib.Core.List.{[]}
 use mathlib.Core.Logic.{_↔_}
-use lib.ListN.{length, drop}
+use lib.ListN.{length}
 use Rattle.meaning.specs.Re.{Text}
 use Rattle.meaning.specs.Words.{Found}
-use Rattle.meaning.specs.Words.Found.{Stuck, Word as Found·word}
+use Rattle.meaning.specs.Words.Found.{Word as Found·word}
 use Rattle.table.specs.Table.{Table}
 use Rattle.cutting.specs.Steps.{FirstBy, firstBy}
-use Rattle.cutting.specs.Cut.{Ending, Cut, ends, Cuts, cutBy}
+use Rattle.cutting.specs.Cut.{Cut, ends, Cuts, cutBy}
 use Rattle.cutting.specs.Cut.Ending.{Done, FullAt}
 use Rattle.cutting.specs.CutLaws.{first-by, first-by-one, cut-is, cut-one}
-use Rattle.cutting.specs.Tiles.{Tiles, endOf}
-use Rattle.cutting.specs.TileLaws.{cut-tiles, cut-few, then, Finished, cut-enough, On, cut-on}
+use Rattle.cutting.specs.Tiles.{Tiles, endOf, Finished, On}
+use Rattle.cutting.specs.TileLaws.{cut-tiles, cut-few, cut-enough, cut-on}
 
 -- a text has exactly one first word by a table: longest, under the table's label; the walk finds it
 pub the-first-word : (t : Table) (text : Text) (f : Found) → FirstBy t text f ↔ (firstBy t text ≡ f)
@@ -50,6 +50,6 @@ the-empty-text t (suc room) at = refl
 pub the-rest : (t : Table) (m k at : ℕ) (text : Text) (p : ℕ) → cutBy (firstBy t) m at text .ending ≡ FullAt p → On (firstBy t) m k at text p
 the-rest t = cut-on (firstBy t)
 
-pub the-end : (t : Table) (m k at : ℕ) (text : Text) → Finished (firstBy t) (cutBy (firstBy t) m at text .ending)
+pub the-end : (t : Table) (m k at : ℕ) (text : Text) → Finished (cutBy (firstBy t) m at text .ending)
     → cutBy (firstBy t) (m + k) at text ≡ cutBy (firstBy t) m at text
 the-end t = cut-enough (firstBy t)

@@ -2,18 +2,17 @@
 -- What is asked of a first word is only that it is not empty and lies within the text.
 use Prim.Native.Nat.{ℕ, zero, suc, _+_, _-_, _<_, _≤_}
 use mathlib.Core.Path.{_≡_, refl, sym, ap, subst, _∙_}
-use mathlib.Core.List.{List, [], _∷_, _++_}
+use mathlib.Core.List.{[], _∷_}
 use native.Mathlib.Omega.{arith}
 use lib.ListN.{length, drop, length-drop}
 use lib.Seq.{drop-drop}
 use Rattle.meaning.specs.Re.{Text}
 use Rattle.meaning.specs.Words.{Found}
 use Rattle.meaning.specs.Words.Found.{Stuck, Word as Found·word}
-use Rattle.cutting.specs.declared.Word.{Word}
-use Rattle.cutting.specs.Cut.{Ending, Cut, wordAt, ends, before, Cuts, cutBy}
+use Rattle.cutting.specs.Cut.{Ending, Cut, wordAt, before, Cuts, cutBy}
 use Rattle.cutting.specs.Cut.Ending.{Done, StuckAt, FullAt}
 use Rattle.cutting.specs.Cut.Cuts.{done, stuck, full, word}
-use Rattle.cutting.specs.Tiles.{Tiles, endOf}
+use Rattle.cutting.specs.Tiles.{Tiles, endOf, Finished, On}
 
 module _ (F : Text → Found → Type 0) (proper : (text : Text) (n r : ℕ) → F text (Found·word n r) → (0 < n) × (n ≤ length text)) where
   end-on : (at n : ℕ) (text : Text) (e : Ending) → n ≤ length text → endOf (at + n) (drop n text) e ≡ endOf at text e
@@ -38,17 +37,8 @@ cut-few (word room at c w n r x p d) = let h = cut-few d in omega arith
 
 -- ---- cutting on
 
--- one cut behind another
-abbrev pub then : Cut → Cut → Cut
-then x y = record { words = x .words ++ y .words; ending = y .ending }
-
 module _ (first : Text → Found) where
   -- a cut that is not full is the same with more records
-  abbrev pub Finished : Ending → Type 0
-  Finished Done = Unit
-  Finished (StuckAt p) = Unit
-  Finished (FullAt p) = ⊥
-
   pub cut-enough : (m k at : ℕ) (text : Text) → Finished (cutBy first m at text .ending) → cutBy first (m + k) at text ≡ cutBy first m at text
   unfolding cutBy
   cut-enough zero zero at text f = refl
@@ -69,11 +59,6 @@ module _ (first : Text → Found) where
           let d : suc m + k ≡ suc (m + k) = omega arith in
           rw (d, e, cutBy) (ap (before (wordAt at n r)) (ih (at + n) (drop n (c ∷ w)) (rw (e, cutBy) at g)))
 
-  -- a full one goes on from its place with what is left there
-  pub record On (m k at : ℕ) (text : Text) (p : ℕ) : Type 0 where
-    pub onward : at ≤ p
-    pub goes-on : cutBy first (m + k) at text ≡ then (cutBy first m at text) (cutBy first k p (drop (p - at) text))
-
   full-place : {p q : ℕ} → FullAt p ≡ FullAt q → p ≡ q
   full-place e = cc
 
@@ -83,12 +68,13 @@ module _ (first : Text → Found) where
   not-full-stuck : {p q : ℕ} → _≡_ {A = Ending} (StuckAt q) (FullAt p) → ⊥
   not-full-stuck e = let z : _≡_ {A = ℕ} 0 1 = cc in omega arith
 
-  pub cut-on : (m k at : ℕ) (text : Text) (p : ℕ) → cutBy first m at text .ending ≡ FullAt p → On m k at text p
+  -- a full one goes on from its place with what is left there
+  pub cut-on : (m k at : ℕ) (text : Text) (p : ℕ) → cutBy first m at text .ending ≡ FullAt p → On first m k at text p
   unfolding cutBy
   cut-on zero k at [] p e = absurd (not-full-done e)
   cut-on zero k at (c ∷ w) p e = go (first (c ∷ w)) refl e
     where
-      go : (x : Found) → first (c ∷ w) ≡ x → cutBy first zero at (c ∷ w) .ending ≡ FullAt p → On zero k at (c ∷ w) p
+      go : (x : Found) → first (c ∷ w) ≡ x → cutBy first zero at (c ∷ w) .ending ≡ FullAt p → On first zero k at (c ∷ w) p
       go Stuck d f = absurd (not-full-stuck (rw (d, cutBy) at f))
       go (Found·word n r) d f =
           let g : at ≡ p = full-place (rw (d, cutBy) at f) in
@@ -98,8 +84,8 @@ module _ (first : Text → Found) where
   cut-on (suc m) k at [] p e = absurd (not-full-done e)
   cut-on (suc m) k at (c ∷ w) p e = go (first (c ∷ w)) refl (cut-on m k) e
     where
-      go : (x : Found) → first (c ∷ w) ≡ x → ((at : ℕ) (text : Text) (p : ℕ) → cutBy first m at text .ending ≡ FullAt p → On m k at text p)
-          → cutBy first (suc m) at (c ∷ w) .ending ≡ FullAt p → On (suc m) k at (c ∷ w) p
+      go : (x : Found) → first (c ∷ w) ≡ x → ((at : ℕ) (text : Text) (p : ℕ) → cutBy first m at text .ending ≡ FullAt p → On first m k at text p)
+          → cutBy first (suc m) at (c ∷ w) .ending ≡ FullAt p → On first (suc m) k at (c ∷ w) p
       go Stuck d ih f = absurd (not-full-stuck (rw (d, cutBy) at f))
       go (Found·word n r) d ih f =
           let o = ih (at + n) (drop n (c ∷ w)) p (rw (d, cutBy) at f) in

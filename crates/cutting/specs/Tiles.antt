@@ -1,12 +1,13 @@
 -- Words that tile a text from a place on: each starts where the one before it ended, and none is empty.
--- Also where a cut has come to when it ends.
-use Prim.Native.Nat.{ℕ, _+_, _<_}
+-- Also where a cut has come to when it ends, and how one goes on from there.
+use Prim.Native.Nat.{ℕ, _+_, _-_, _<_, _≤_}
 use mathlib.Core.Path.{_≡_}
-use mathlib.Core.List.{List, [], _∷_}
-use lib.ListN.{length}
+use mathlib.Core.List.{List, [], _∷_, _++_}
+use lib.ListN.{length, drop}
 use Rattle.meaning.specs.Re.{Text}
+use Rattle.meaning.specs.Words.{Found}
 use Rattle.cutting.specs.declared.Word.{Word}
-use Rattle.cutting.specs.Cut.{Ending}
+use Rattle.cutting.specs.Cut.{Ending, Cut, cutBy}
 use Rattle.cutting.specs.Cut.Ending.{Done, StuckAt, FullAt}
 
 abbrev pub Tiles : ℕ → List Word → ℕ → Type 0
@@ -18,3 +19,18 @@ abbrev pub endOf : ℕ → Text → Ending → ℕ
 endOf at text Done = at + length text
 endOf at text (StuckAt p) = p
 endOf at text (FullAt p) = p
+
+-- a cut ended for another reason than that its records were used up
+abbrev pub Finished : Ending → Type 0
+Finished Done = Unit
+Finished (StuckAt p) = Unit
+Finished (FullAt p) = ⊥
+
+-- one cut behind another
+abbrev pub then : Cut → Cut → Cut
+then x y = record { words = x .words ++ y .words; ending = y .ending }
+
+-- a cut with m records that came to p: with k more it is that cut, and behind it the cut of what is left at p
+pub record On (first : Text → Found) (m k at : ℕ) (text : Text) (p : ℕ) : Type 0 where
+  pub onward : at ≤ p
+  pub goes-on : cutBy first (m + k) at text ≡ then (cutBy first m at text) (cutBy first k p (drop (p - at) text))

@@ -33,19 +33,19 @@ pub enum Ended {
 }
 
 // The first word at a place: its length and its rule.
-pub enum Next {
+enum Next {
     Word(usize, usize),
     None,
 }
 
 // Where a cut goes on: the place in the text, and the table's dead state, in which the walk for a word stops.
-pub struct Place {
+struct Place {
     pub at: usize,
     pub dead: usize,
 }
 
 // One step of a cut: a word to store and the place after it, or the cut's answer.
-pub struct Step {
+struct Step {
     pub go: bool,
     pub word: Word,
     pub next: Place,

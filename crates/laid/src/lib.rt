@@ -16,21 +16,21 @@ pub mod writing;
 use number::limits::NODES;
 
 // The count of more nodes than there is room for.
-pub const OVER: usize = NODES + 1;
+const OVER: usize = NODES + 1;
 
 // Nodes in cells: a code, and for a range its bounds above it.
 pub const EMPTY: u32 = 1;
 
-pub const RANGE: u32 = 2;
+pub(crate) const RANGE: u32 = 2;
 
 pub const CAT: u32 = 3;
 
 pub const ALT: u32 = 4;
 
-pub const STAR: u32 = 5;
+const STAR: u32 = 5;
 
 // A range of bytes.
-pub struct Span {
+struct Span {
     pub lo: u8,
     pub hi: u8,
 }

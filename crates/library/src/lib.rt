@@ -17,7 +17,7 @@ use packed::CELLS;
 pub extern "C" fn lubi_check_book(book: &[u8], answer: &mut [usize; CELLS]) -> usize
     ensures { λ code. ⌜ left code (now (answer .exit)) ≡ packed toldSize (checkOf (now (book .entry))) ⌝ }
 {
-    let found = book::check_book(book);
+    let found = checking::check_book(book);
     packed::tell_size(answer, found)
 }
 
@@ -26,7 +26,7 @@ pub extern "C" fn lubi_check_book(book: &[u8], answer: &mut [usize; CELLS]) -> u
 pub extern "C" fn lubi_rule_kind(book: &[u8], rule: usize, answer: &mut [usize; CELLS]) -> usize
     ensures { λ code. ⌜ left code (now (answer .exit)) ≡ packed toldKind (kindOf (now (book .entry)) rule) ⌝ }
 {
-    let found = book::rule_kind(book, rule);
+    let found = places::rule_kind(book, rule);
     packed::tell_kind(answer, found)
 }
 
@@ -83,7 +83,7 @@ pub extern "C" fn lubi_load(
     ensures { λ _. ⌜ now (labels .exit) ≡ loadOf (now (sheet .entry)) (now (labels .entry)) (now (targets .entry)) .labels ⌝ }
     ensures { λ _. ⌜ now (targets .exit) ≡ loadOf (now (sheet .entry)) (now (labels .entry)) (now (targets .entry)) .targets ⌝ }
 {
-    let found = table::load(sheet, labels, targets);
+    let found = loading::load(sheet, labels, targets);
     packed::tell_states(answer, found)
 }
 
@@ -100,7 +100,7 @@ pub extern "C" fn lubi_write_sheet<'a>(
         ≡ packed toldCount (writeOf count (now (labels .entry)) (now (targets .entry)) (now (out .entry)) .answer) ⌝ }
     ensures { λ _. ⌜ now (out .exit) ≡ writeOf count (now (labels .entry)) (now (targets .entry)) (now (out .entry)) .out ⌝ }
 {
-    let found = table::write_sheet(count, labels, targets, out);
+    let found = writing::write_sheet(count, labels, targets, out);
     packed::tell_bytes(answer, found)
 }
 

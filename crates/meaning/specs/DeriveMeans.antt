@@ -2,18 +2,17 @@
 -- First of the textbook's derivative, which gives that matching is decidable; then of the one in normal form, which matches the same.
 use Prim.Native.Nat.{ℕ, _≤_}
 use mathlib.Core.Path.{_≡_, refl, sym, subst, ap}
-use mathlib.Core.Bool.{Bool, true, false, cond, _&&_, _||_}
-use mathlib.Core.List.{List, [], _∷_}
+use mathlib.Core.Bool.{Bool, true, false, cond, _&&_}
+use mathlib.Core.List.{[], _∷_}
 use mathlib.Core.Logic.{_↔_, _⊎_, inl, inr}
-use native.Mathlib.Omega.{arith}
 use lib.Dec.{leb}
 use borrow.Author.Tests.{leb-true, le-leb}
 use Rattle.meaning.specs.Re.{Re, Text}
 use Rattle.meaning.specs.Re.Re.{Nothing, Empty, Range, Cat, Alt, Star}
-use Rattle.meaning.specs.Lang.{Lang, Same, Then, Many, After}
-use Rattle.meaning.specs.LangLaws.{cons-nil, same-sym, same-trans, then-same, then-cons, then-nil, many-nil, many-cons, either-same}
-use Rattle.meaning.specs.Means.{Matches, OneByte}
-use Rattle.meaning.specs.Normal.{cat, alt}
+use Rattle.meaning.specs.Lang.{Same, Then, Many, After}
+use Rattle.meaning.specs.LangLaws.{cons-nil, same-trans, then-same, then-cons, then-nil, many-nil, many-cons, either-same}
+use Rattle.meaning.specs.Means.{Matches}
+use Rattle.meaning.specs.Normal.{cat}
 use Rattle.meaning.specs.NormalMeans.{same-refl, cat-means, alt-means}
 use Rattle.meaning.specs.Derive.{nullable, deriv, plain}
 use Rattle.number.specs.Branch.{by-cond}

@@ -1,6 +1,6 @@
 -- The limited forms: a normal-form result of more than 255 tree nodes, also of a part on the way, is Long.
 -- On the way stand the results of all parts that are worked out, each in normal form; LimitedLaws says exactly when Long comes.
-use Prim.Native.Nat.{ℕ}
+use Prim.Native.Nat.{ℕ, _<_}
 use mathlib.Core.Bool.{Bool, true, false, cond, _&&_}
 use mathlib.Core.List.{List, [], _∷_, _++_}
 use lib.Dec.{leb}
@@ -86,3 +86,8 @@ normalResults (Star a) = normalResults a ++ (normal (Star a) ∷ [])
 unfoldable pub allShort : List Re → Bool
 allShort [] = true
 allShort (r ∷ rs) = short r && allShort rs
+
+-- some result has more nodes than the limit
+pub data Over : List Re → Type 0 where
+  here : {r : Re} {rs : List Re} → treeNodes < size r → Over (r ∷ rs)
+  later : {r : Re} {rs : List Re} → Over rs → Over (r ∷ rs)

@@ -1,20 +1,21 @@
 -- The limited forms answer the unlimited result or Long, and Long exactly when a result on the way passes the limit.
 -- One equation says both: the result if all results on the way are short, else Long.
-use Prim.Native.Nat.{ℕ, _<_}
+use Prim.Native.Nat.{ℕ}
 use mathlib.Core.Path.{_≡_, refl, sym, ap, _∙_}
 use mathlib.Core.Bool.{Bool, true, false, cond, _&&_}
 use mathlib.Core.List.{List, [], _∷_, _++_}
-use mathlib.Core.Logic.{_↔_, _⊎_, inl, inr}
+use mathlib.Core.Logic.{_↔_}
 use native.Mathlib.Omega.{arith}
 use lib.Dec.{leb}
-use borrow.Author.Tests.{leb-true, leb-false, lt-leb}
+use borrow.Author.Tests.{leb-false, lt-leb}
 use Rattle.number.specs.Limits.{treeNodes}
 use Rattle.meaning.specs.Re.{Re, size}
 use Rattle.meaning.specs.Re.Re.{Nothing, Empty, Range, Cat, Alt, Star}
 use Rattle.meaning.specs.Normal.{cat, alt, star, normal}
 use Rattle.meaning.specs.Derive.{nullable, deriv}
-use Rattle.meaning.specs.Limited.{Fit, _>>=_, short, fit, derivFit, normalFit, derivResults, normalResults, allShort}
+use Rattle.meaning.specs.Limited.{Fit, _>>=_, short, fit, derivFit, normalFit, derivResults, normalResults, allShort, Over}
 use Rattle.meaning.specs.Limited.Fit.{Long, Fits}
+use Rattle.meaning.specs.Limited.Over.{here, later}
 use Rattle.meaning.specs.Tests.{clash}
 
 -- a result, if a test allows it
@@ -115,11 +116,6 @@ normal-fits (Range lo hi) = refl
 normal-fits (Cat a b) = part-two (normalResults a) (normalResults b) (normal a) (normal b) cat (normal-fits a) (normal-fits b)
 normal-fits (Alt a b) = part-two (normalResults a) (normalResults b) (normal a) (normal b) alt (normal-fits a) (normal-fits b)
 normal-fits (Star a) = part-one (normalResults a) (normal a) star (normal-fits a)
-
--- some result has more nodes than the limit
-pub data Over : List Re → Type 0 where
-  here : {r : Re} {rs : List Re} → treeNodes < size r → Over (r ∷ rs)
-  later : {r : Re} {rs : List Re} → Over rs → Over (r ∷ rs)
 
 over : (rs : List Re) → allShort rs ≡ false → Over rs
 unfolding allShort

@@ -1,28 +1,28 @@
 -- The theorems of this layer that are bought, together; each is proved in the file that its proof names.
 -- To believe them, read only the definitions: Re, Lang, Means, Order, Normal, Derive, Limited, Rules, Words, Sample.
-use Prim.Native.Nat.{ℕ, Ordering, Ordering·lt, Ordering·eq}
+use Prim.Native.Nat.{ℕ, Ordering·lt, Ordering·eq}
 use mathlib.Core.Path.{_≡_}
 use mathlib.Core.Bool.{true}
 use mathlib.Core.List.{List, [], _∷_}
 use mathlib.Core.Logic.{_↔_}
 use Rattle.meaning.specs.Re.{Re, Text}
 use Rattle.meaning.specs.Means.{Matches}
-use Rattle.meaning.specs.Order.{order}
-use Rattle.meaning.specs.OrderLaws.{turned, order-self, order-equal, order-turned, order-trans}
-use Rattle.meaning.specs.Normal.{normal, sorted}
+use Rattle.meaning.specs.Order.{order, turned}
+use Rattle.meaning.specs.OrderLaws.{order-self, order-equal, order-turned, order-trans}
+use Rattle.meaning.specs.Normal.{normal, sorted, Rising}
 use Rattle.meaning.specs.NormalMeans.{normal-means}
-use Rattle.meaning.specs.NormalShape.{Rising, sorted-rising}
+use Rattle.meaning.specs.NormalShape.{sorted-rising}
 use Rattle.meaning.specs.Derive.{nullable, deriv}
 use Rattle.meaning.specs.DeriveMeans.{nullable-means, deriv-means, decide}
-use Rattle.meaning.specs.Limited.{Fit, derivFit, normalFit, derivResults, normalResults}
+use Rattle.meaning.specs.Limited.{derivFit, normalFit, derivResults, normalResults, Over}
 use Rattle.meaning.specs.Limited.Fit.{Long, Fits}
-use Rattle.meaning.specs.LimitedLaws.{Over, deriv-long, deriv-short, normal-long, normal-short}
+use Rattle.meaning.specs.LimitedLaws.{deriv-long, deriv-short, normal-long, normal-short}
 use Rattle.meaning.specs.Rules.{Names, labelAfter}
 use Rattle.meaning.specs.RulesMean.{names-after, names-one}
 use Rattle.meaning.specs.Words.{Found, FirstWord, firstWord}
 use Rattle.meaning.specs.WordsMean.{first-word, one-first-word}
-use Rattle.meaning.specs.Sample.{lines}
-use Rattle.meaning.specs.SampleHolds.{EachHolds, worked-lines}
+use Rattle.meaning.specs.Sample.{EachHolds, lines}
+use Rattle.meaning.specs.SampleHolds.{worked-lines}
 
 -- the derivative by c matches w exactly when the term matches c, then w
 pub the-derivative : (c : ℕ) (r : Re) (w : Text) → Matches (deriv c r) w ↔ Matches r (c ∷ w)
@@ -54,13 +54,13 @@ pub the-order : TotalOrder
 the-order = record { equal = λ x y. (order-equal x y, λ e. rw e (order-self y)); turns = order-turned; passes-on = order-trans }
 
 -- a limited form answers the unlimited result, or Long exactly when a result on the way passes the limit
-pub record Limits : Type 0 where
+pub record LimitsMet : Type 0 where
   pub deriv-is : (c : ℕ) (r x : Re) → derivFit c r ≡ Fits x → x ≡ deriv c r
   pub deriv-is-long : (c : ℕ) (r : Re) → (derivFit c r ≡ Long) ↔ Over (derivResults c r)
   pub normal-is : (r x : Re) → normalFit r ≡ Fits x → x ≡ normal r
   pub normal-is-long : (r : Re) → (normalFit r ≡ Long) ↔ Over (normalResults r)
 
-pub the-limits : Limits
+pub the-limits : LimitsMet
 the-limits = record { deriv-is = deriv-short; deriv-is-long = deriv-long; normal-is = normal-short; normal-is-long = normal-long }
 
 -- the label after a text, by derivatives, names the text, and nothing else does

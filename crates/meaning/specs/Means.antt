@@ -1,8 +1,8 @@
 -- The textbook meaning of an expression: which texts it matches (source document 000, 1.3.3, clause by clause).
--- A function into types and not a test: what decides it is a theorem (Decide).
+-- A function into types and not a test: what decides it is a theorem (`decide`, in DeriveMeans).
 use Prim.Native.Nat.{ℕ, _≤_}
 use mathlib.Core.Path.{_≡_}
-use mathlib.Core.List.{List, [], _∷_}
+use mathlib.Core.List.{[], _∷_}
 use mathlib.Core.Logic.{_⊎_}
 use Rattle.meaning.specs.Re.{Re, Text}
 use Rattle.meaning.specs.Re.Re.{Nothing, Empty, Range, Cat, Alt, Star}

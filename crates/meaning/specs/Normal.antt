@@ -1,8 +1,9 @@
 -- Normal form, as document 01 words it: cat, alt and star join terms in normal form, normal builds a term upward.
 -- NormalMeans proves that none of them changes what is matched.
-use mathlib.Core.Bool.{Bool, true, false, cond, _||_}
+use mathlib.Core.Path.{_≡_}
+use mathlib.Core.Bool.{cond, _||_}
 use mathlib.Core.List.{List, [], _∷_, _++_}
-use Prim.Native.Nat.{Ordering, Ordering·lt, Ordering·eq, Ordering·gt}
+use Prim.Native.Nat.{Ordering·lt, Ordering·eq, Ordering·gt}
 use Rattle.meaning.specs.Re.{Re, isNothing, isEmpty}
 use Rattle.meaning.specs.Re.Re.{Nothing, Empty, Range, Cat, Alt, Star}
 use Rattle.meaning.specs.Order.{order}
@@ -74,3 +75,13 @@ normal (Range lo hi) = Range lo hi
 normal (Cat a b) = cat (normal a) (normal b)
 normal (Alt a b) = alt (normal a) (normal b)
 normal (Star a) = star (normal a)
+
+-- x stands before the first of a list, if there is one
+abbrev pub Before : Re → List Re → Type 0
+Before x [] = Unit
+Before x (y ∷ ys) = order x y ≡ Ordering·lt
+
+-- each stands before the next
+abbrev pub Rising : List Re → Type 0
+Rising [] = Unit
+Rising (x ∷ xs) = Before x xs × Rising xs

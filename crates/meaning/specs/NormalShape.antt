@@ -1,22 +1,12 @@
 -- The shape of a choice in normal form: its members rise strictly in the order of terms, so each stands there once.
 -- Meaning alone would let a choice keep its members unsorted or doubled; this does not.
-use Prim.Native.Nat.{ℕ, Ordering, Ordering·lt, Ordering·eq, Ordering·gt}
+use Prim.Native.Nat.{Ordering, Ordering·lt, Ordering·eq, Ordering·gt}
 use mathlib.Core.Path.{_≡_, refl, ap, _∙_}
 use mathlib.Core.List.{List, [], _∷_}
 use Rattle.meaning.specs.Re.{Re}
-use Rattle.meaning.specs.Order.{order}
-use Rattle.meaning.specs.OrderLaws.{turned, order-turned}
-use Rattle.meaning.specs.Normal.{placed, sorted}
-
--- x stands before the first of a list, if there is one
-abbrev pub Before : Re → List Re → Type 0
-Before x [] = Unit
-Before x (y ∷ ys) = order x y ≡ Ordering·lt
-
--- each stands before the next
-abbrev pub Rising : List Re → Type 0
-Rising [] = Unit
-Rising (x ∷ xs) = Before x xs × Rising xs
+use Rattle.meaning.specs.Order.{order, turned}
+use Rattle.meaning.specs.OrderLaws.{order-turned}
+use Rattle.meaning.specs.Normal.{placed, sorted, Before, Rising}
 
 -- a member put in its place stands behind what was before it
 placed-before : (z x : Re) (ys : List Re) → order z x ≡ Ordering·lt → Before z ys → Before z (placed x ys)

@@ -5,13 +5,13 @@ use Rattle.meaning.specs.Re.{Re}
 use Rattle.meaning.specs.Re.Re.{Nothing, Empty, Range, Cat, Alt, Star}
 
 -- the place of its kind in the order
-abbrev pub kind : Re → ℕ
-kind Nothing = 0
-kind Empty = 1
-kind (Range lo hi) = 2
-kind (Cat a b) = 3
-kind (Alt a b) = 4
-kind (Star a) = 5
+abbrev pub rank : Re → ℕ
+rank Nothing = 0
+rank Empty = 1
+rank (Range lo hi) = 2
+rank (Cat a b) = 3
+rank (Alt a b) = 4
+rank (Star a) = 5
 
 -- the parts, from left to right; a kind that lacks one has 0 or Nothing for it
 abbrev pub low : Re → ℕ
@@ -53,9 +53,15 @@ also Ordering·eq o = o
 also Ordering·gt o = Ordering·gt
 
 unfoldable pub order : Re → Re → Ordering
-order Nothing y = compare (kind Nothing) (kind y)
-order Empty y = compare (kind Empty) (kind y)
-order (Range lo hi) y = also (compare (kind (Range lo hi)) (kind y)) (also (compare lo (low y)) (compare hi (high y)))
-order (Cat a b) y = also (compare (kind (Cat a b)) (kind y)) (also (order a (left y)) (order b (right y)))
-order (Alt a b) y = also (compare (kind (Alt a b)) (kind y)) (also (order a (left y)) (order b (right y)))
-order (Star a) y = also (compare (kind (Star a)) (kind y)) (order a (left y))
+order Nothing y = compare (rank Nothing) (rank y)
+order Empty y = compare (rank Empty) (rank y)
+order (Range lo hi) y = also (compare (rank (Range lo hi)) (rank y)) (also (compare lo (low y)) (compare hi (high y)))
+order (Cat a b) y = also (compare (rank (Cat a b)) (rank y)) (also (order a (left y)) (order b (right y)))
+order (Alt a b) y = also (compare (rank (Alt a b)) (rank y)) (also (order a (left y)) (order b (right y)))
+order (Star a) y = also (compare (rank (Star a)) (rank y)) (order a (left y))
+
+-- a comparison the other way round
+abbrev pub turned : Ordering → Ordering
+turned Ordering·lt = Ordering·gt
+turned Ordering·eq = Ordering·eq
+turned Ordering·gt = Ordering·lt

@@ -6,7 +6,7 @@ use mathlib.Core.List.{List, [], _∷_}
 use native.Mathlib.Omega.{arith}
 use Rattle.meaning.specs.Re.{Re}
 use Rattle.meaning.specs.Re.Re.{Nothing, Empty, Range, Cat, Alt, Star}
-use Rattle.meaning.specs.Order.{kind, low, high, left, right, also, order}
+use Rattle.meaning.specs.Order.{rank, also, order, turned}
 
 -- what a comparison of numbers says
 data Compared (m n : ℕ) : Ordering → Type 0 where
@@ -36,12 +36,6 @@ compare-is (equal h) (more k) = absurd (omega arith)
 compare-is (more h) (less k) = absurd (omega arith)
 compare-is (more h) (equal k) = absurd (omega arith)
 compare-is (more h) (more k) = refl
-
--- the other way round
-abbrev pub turned : Ordering → Ordering
-turned Ordering·lt = Ordering·gt
-turned Ordering·eq = Ordering·eq
-turned Ordering·gt = Ordering·lt
 
 compared-turned : {m n : ℕ} {o : Ordering} → Compared m n o → Compared n m (turned o)
 compared-turned (less h) = more h
@@ -97,12 +91,12 @@ dict-trans (l ∷ ls) (m ∷ ms) (n ∷ ns) d e = also-below (dict ls ms) (dict 
 
 -- a term written out, in front of a list
 spelt : Re → List ℕ → List ℕ
-spelt Nothing k = kind Nothing ∷ k
-spelt Empty k = kind Empty ∷ k
-spelt (Range lo hi) k = kind (Range lo hi) ∷ lo ∷ hi ∷ k
-spelt (Cat a b) k = kind (Cat a b) ∷ spelt a (spelt b k)
-spelt (Alt a b) k = kind (Alt a b) ∷ spelt a (spelt b k)
-spelt (Star a) k = kind (Star a) ∷ spelt a k
+spelt Nothing k = rank Nothing ∷ k
+spelt Empty k = rank Empty ∷ k
+spelt (Range lo hi) k = rank (Range lo hi) ∷ lo ∷ hi ∷ k
+spelt (Cat a b) k = rank (Cat a b) ∷ spelt a (spelt b k)
+spelt (Alt a b) k = rank (Alt a b) ∷ spelt a (spelt b k)
+spelt (Star a) k = rank (Star a) ∷ spelt a k
 
 -- two terms side by side: of one kind, with their parts side by side, or of two kinds
 data Both : Re → Re → Type 0 where
@@ -112,7 +106,7 @@ data Both : Re → Re → Type 0 where
   cats : {a b a′ b′ : Re} → Both a a′ → Both b b′ → Both (Cat a b) (Cat a′ b′)
   alts : {a b a′ b′ : Re} → Both a a′ → Both b b′ → Both (Alt a b) (Alt a′ b′)
   stars : {a a′ : Re} → Both a a′ → Both (Star a) (Star a′)
-  differ : (x y : Re) → (kind x ≡ kind y → ⊥) → Both x y
+  differ : (x y : Re) → (rank x ≡ rank y → ⊥) → Both x y
 
 both : (x y : Re) → Both x y
 both Nothing Nothing = nothings
@@ -161,28 +155,28 @@ rest (Cat a b) k = spelt a (spelt b k)
 rest (Alt a b) k = spelt a (spelt b k)
 rest (Star a) k = spelt a k
 
-spelt-kind : (x : Re) (k : List ℕ) → spelt x k ≡ kind x ∷ rest x k
+spelt-rank : (x : Re) (k : List ℕ) → spelt x k ≡ rank x ∷ rest x k
 unfolding spelt rest
-spelt-kind Nothing k = refl
-spelt-kind Empty k = refl
-spelt-kind (Range lo hi) k = refl
-spelt-kind (Cat a b) k = refl
-spelt-kind (Alt a b) k = refl
-spelt-kind (Star a) k = refl
+spelt-rank Nothing k = refl
+spelt-rank Empty k = refl
+spelt-rank (Range lo hi) k = refl
+spelt-rank (Cat a b) k = refl
+spelt-rank (Alt a b) k = refl
+spelt-rank (Star a) k = refl
 
 also-differ : {m n : ℕ} {o : Ordering} (p q : Ordering) → (m ≡ n → ⊥) → Compared m n o → also o p ≡ also o q
 also-differ p q h (less k) = refl
 also-differ p q h (equal k) = absurd (h k)
 also-differ p q h (more k) = refl
 
-order-differ : (x y : Re) (o : Ordering) → (kind x ≡ kind y → ⊥) → also (compare (kind x) (kind y)) o ≡ also (order x y) o
+order-differ : (x y : Re) (o : Ordering) → (rank x ≡ rank y → ⊥) → also (compare (rank x) (rank y)) o ≡ also (order x y) o
 unfolding order
 order-differ Nothing y o h = refl
 order-differ Empty y o h = refl
-order-differ (Range lo hi) y o h = also-differ o _ h (compared _ (kind y)) ∙ sym (also-assoc (compare 2 (kind y)) _ o)
-order-differ (Cat a b) y o h = also-differ o _ h (compared _ (kind y)) ∙ sym (also-assoc (compare 3 (kind y)) _ o)
-order-differ (Alt a b) y o h = also-differ o _ h (compared _ (kind y)) ∙ sym (also-assoc (compare 4 (kind y)) _ o)
-order-differ (Star a) y o h = also-differ o _ h (compared _ (kind y)) ∙ sym (also-assoc (compare 5 (kind y)) _ o)
+order-differ (Range lo hi) y o h = also-differ o _ h (compared _ (rank y)) ∙ sym (also-assoc (compare 2 (rank y)) _ o)
+order-differ (Cat a b) y o h = also-differ o _ h (compared _ (rank y)) ∙ sym (also-assoc (compare 3 (rank y)) _ o)
+order-differ (Alt a b) y o h = also-differ o _ h (compared _ (rank y)) ∙ sym (also-assoc (compare 4 (rank y)) _ o)
+order-differ (Star a) y o h = also-differ o _ h (compared _ (rank y)) ∙ sym (also-assoc (compare 5 (rank y)) _ o)
 
 order-spelt : {x y : Re} → Both x y → (k l : List ℕ) → dict (spelt x k) (spelt y l) ≡ also (order x y) (dict k l)
 unfolding order spelt dict
@@ -195,8 +189,8 @@ order-spelt (alts {a} {b} {a′} {b′} p q) k l =
     order-spelt p (spelt b k) (spelt b′ l) ∙ ap (also (order a a′)) (order-spelt q k l) ∙ sym (also-assoc (order a a′) (order b b′) (dict k l))
 order-spelt (stars p) k l = order-spelt p k l
 order-spelt (differ x y h) k l =
-    rw (spelt-kind x k, spelt-kind y l)
-    (also-differ (dict (rest x k) (rest y l)) (dict k l) h (compared (kind x) (kind y)) ∙ order-differ x y (dict k l) h)
+    rw (spelt-rank x k, spelt-rank y l)
+    (also-differ (dict (rest x k) (rest y l)) (dict k l) h (compared (rank x) (rank y)) ∙ order-differ x y (dict k l) h)
 
 also-eq : (o : Ordering) → also o Ordering·eq ≡ o
 also-eq Ordering·lt = refl
@@ -260,7 +254,7 @@ same-both (alts {a} {b} {a′} {b′} p q) e =
 same-both (stars p) e = ap Star (same-both p e)
 same-both (differ x y h) e =
     let k = order-differ x y Ordering·eq h ∙ also-eq (order x y) ∙ e in
-    absurd (h (compare-eq (compared (kind x) (kind y)) (sym (also-eq (compare (kind x) (kind y))) ∙ k)))
+    absurd (h (compare-eq (compared (rank x) (rank y)) (sym (also-eq (compare (rank x) (rank y))) ∙ k)))
 
 pub order-equal : (x y : Re) → order x y ≡ Ordering·eq → x ≡ y
 order-equal x y e = same-both (both x y) e

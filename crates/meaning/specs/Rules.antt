@@ -1,7 +1,7 @@
 -- Rules in a row: which of them a text is named by, as the textbook says it, and the label that derivatives work out.
 -- RulesMean proves that the label after a text is the one that names it.
 use Prim.Native.Nat.{ℕ, zero, suc, _<_}
-use mathlib.Core.Bool.{Bool, true, false, cond}
+use mathlib.Core.Bool.{cond}
 use mathlib.Core.List.{List, [], _∷_, map}
 use lib.ListN.{length, getD}
 use Rattle.meaning.specs.Re.{Re, Text}

@@ -1,13 +1,13 @@
 -- The label after a text, by derivatives, is the one that names it; and no other number names it.
 -- A vector's label looks for the empty text; each byte read is taken off the text by the derivative theorem.
 use Prim.Native.Nat.{ℕ, zero, suc, _+_, _<_}
-use mathlib.Core.Path.{_≡_, refl, sym, ap, subst, _∙_}
+use mathlib.Core.Path.{_≡_, refl, subst}
 use mathlib.Core.Bool.{Bool, true, false, cond}
-use mathlib.Core.List.{List, [], _∷_, map}
+use mathlib.Core.List.{List, [], _∷_}
 use mathlib.Core.Logic.{_↔_}
 use native.Mathlib.Omega.{arith}
 use native.Mathlib.Decide.{decLt}
-use lib.ListN.{length, getD, length-map, List·getD-map}
+use lib.ListN.{length, length-map, List·getD-map}
 use Rattle.meaning.specs.Re.{Re, Text}
 use Rattle.meaning.specs.Re.Re.{Nothing}
 use Rattle.meaning.specs.Means.{Matches}

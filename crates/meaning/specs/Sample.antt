@@ -32,6 +32,10 @@ Holds (Named text l) = Names W text l
 Holds (Begins text found) = FirstWord W text found
 Holds (Written n bytes) = writeNumber n ≡ bytes
 
+abbrev pub EachHolds : List Line → Type 0
+EachHolds [] = Unit
+EachHolds (line ∷ rest) = Holds line × EachHolds rest
+
 abbrev t : ℕ
 t = 116
 

@@ -6,14 +6,13 @@ use mathlib.Core.Bool.{Bool, true, false, _&&_}
 use mathlib.Core.List.{List, [], _∷_}
 use lib.Dec.{T, eqb, eqb→eq}
 use Rattle.number.specs.Numbers.{writeNumber}
-use Rattle.meaning.specs.Re.{Text}
 use Rattle.meaning.specs.Rules.{labelAfter, Names}
 use Rattle.meaning.specs.RulesMean.{names-after}
 use Rattle.meaning.specs.Words.{Found, FirstWord, firstWord}
 use Rattle.meaning.specs.Words.Found.{Stuck, Word}
 use Rattle.meaning.specs.WordsMean.{first-word}
 use Rattle.meaning.specs.SampleTests.{sameFound, sameBytes, test, tests, lines-pass}
-use Rattle.meaning.specs.Sample.{W, Line, Holds, lines}
+use Rattle.meaning.specs.Sample.{W, Line, Holds, EachHolds, lines}
 use Rattle.meaning.specs.Sample.Line.{Named, Begins, Written}
 
 both-true : (a b : Bool) → T (a && b) → T a × T b
@@ -47,10 +46,6 @@ unfolding test
 test-holds (Named text l) p = subst (Names W text) (eqb→eq (labelAfter W text) l p) (names-after W text)
 test-holds (Begins text found) p = subst (FirstWord W text) (found-same (firstWord W text) found p) (first-word W text)
 test-holds (Written n bytes) p = bytes-same (writeNumber n) bytes p
-
-abbrev pub EachHolds : List Line → Type 0
-EachHolds [] = Unit
-EachHolds (line ∷ rest) = Holds line × EachHolds rest
 
 tests-hold : (ls : List Line) → T (tests ls) → EachHolds ls
 unfolding tests

@@ -1,14 +1,13 @@
 -- What a term in normal form looks like, and the merge of two sorted choices: for the code that builds terms node by node.
 -- ShapeLaws proves that the normal form has this shape, and that merging two choices in this shape is alt.
-use Prim.Native.Nat.{ℕ, zero, suc, Ordering, Ordering·lt, Ordering·eq, Ordering·gt}
+use Prim.Native.Nat.{Ordering·lt, Ordering·eq, Ordering·gt}
 use mathlib.Core.Path.{_≡_}
 use mathlib.Core.Bool.{Bool, true, false}
 use mathlib.Core.List.{List, [], _∷_}
 use Rattle.meaning.specs.Re.{Re, isNothing, isEmpty}
 use Rattle.meaning.specs.Re.Re.{Nothing, Empty, Range, Cat, Alt, Star}
 use Rattle.meaning.specs.Order.{order}
-use Rattle.meaning.specs.Normal.{gathered, nested}
-use Rattle.meaning.specs.NormalShape.{Before}
+use Rattle.meaning.specs.Normal.{gathered, nested, Before}
 
 abbrev pub isCat : Re → Bool
 isCat Nothing = false

@@ -1,15 +1,14 @@
 -- A text has exactly one first word, and the walk finds it: for derivatives, and for whatever else says what label a text has.
 -- The walk's best word is the first word of what it has read; one more byte keeps that so.
-use Prim.Native.Nat.{ℕ, zero, suc, _+_, _<_, _≤_}
-use mathlib.Core.Path.{_≡_, refl, sym, ap, subst, _∙_}
+use Prim.Native.Nat.{ℕ, zero, suc, _<_, _≤_}
+use mathlib.Core.Path.{_≡_, refl, subst, _∙_}
 use mathlib.Core.List.{List, [], _∷_, _++_, append-assoc, append-nil}
-use mathlib.Core.Logic.{_↔_}
 use native.Mathlib.Omega.{arith}
 use native.Mathlib.Decide.{decLt}
 use lib.ListN.{length, take, length-append}
 use lib.Seq.{take-append-le, take-all}
 use Rattle.meaning.specs.Re.{Re, Text}
-use Rattle.meaning.specs.Rules.{Names, label, deriveAll, deriveBy, start, labelAfter}
+use Rattle.meaning.specs.Rules.{Names, label, deriveAll, deriveBy, start}
 use Rattle.meaning.specs.RulesMean.{names-after, names-one}
 use Rattle.meaning.specs.Words.{Found, First, FirstWord, NoneLonger, better, scan, reach, firstWord}
 use Rattle.meaning.specs.Words.Found.{Stuck, Word}

@@ -24,7 +24,7 @@ pub const SETS: usize = 12;
 
 pub const BEGUN: usize = SETS;
 
-pub const UNKNOWN: usize = SETS + 1;
+const UNKNOWN: usize = SETS + 1;
 
 // The names of the sets with the bracket that ends them, seven bytes for each.
 const NAMES: [u8; 84] = [

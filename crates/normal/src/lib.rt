@@ -57,7 +57,7 @@ fn chain(cells: &mut [u64], top: usize, a: usize, b: usize) -> Built
 }
 
 // One term after another: Nothing on a side gives Nothing, Empty on a side the other side, all else a chain.
-pub fn cat(cells: &mut [u64], top: usize, a: usize, b: usize) -> Built
+fn cat(cells: &mut [u64], top: usize, a: usize, b: usize) -> Built
     requires { ⌜ Links (now cells) top a b ⌝ }
     ensures { λ r. ⌜ Cats (now (cells .entry)) top a b (now (cells .exit)) r ⌝ }
 {
@@ -132,7 +132,7 @@ fn unite(cells: &mut [u64], top: usize, a: usize, b: usize) -> Built
 }
 
 // The choice of two terms: Nothing on a side gives the other side, all else the merge.
-pub fn alt(cells: &mut [u64], top: usize, a: usize, b: usize) -> Built
+fn alt(cells: &mut [u64], top: usize, a: usize, b: usize) -> Built
     requires { ⌜ Choices (now cells) top a b ⌝ }
     ensures { λ r. ⌜ Alts (now (cells .entry)) top a b (now (cells .exit)) r ⌝ }
 {

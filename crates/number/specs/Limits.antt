@@ -1,4 +1,4 @@
--- Every number that document 01 fixes, or a request of document 02 after it, or that we chose, where the paper is silent (as rulesFile), once: a definition or a promise that needs one names it here.
+-- Every number that document 01 fixes, or a request of document 02 after it, or that we chose, where the paper is silent (rulesFile, scratch), once: a definition or a promise that needs one names it here.
 -- src/limits.rt holds the same numbers for the code; a proof that crosses from one to the other fails if they differ.
 use Prim.Native.Nat.{ℕ, _*_}
 
@@ -69,10 +69,11 @@ pairs = 512
 abbrev pub shownText : ℕ
 shownText = 512
 
--- lent work areas: the most cells that a call may ask for, and the scratch for making one term, a derivative or a rule's normal form
+-- lent work areas: the most cells that a call may ask for
 abbrev pub workCells : ℕ
 workCells = 65536
 
+-- the cells in which one term is made, a derivative or a rule's normal form: no paper's number but ours
 abbrev pub scratch : ℕ
 scratch = 34816
 

@@ -1,12 +1,10 @@
-// Every number that document 01 fixes, or a request of document 02 after it, or that we chose, where the paper is silent (as RULES_FILE), once, for the code; specs/Limits.antt holds the same for the definitions.
+// Every number that document 01 fixes, or a request of document 02 after it, or that we chose, where the paper is silent (RULES_FILE, SCRATCH), once, for the code; specs/Limits.antt holds the same for the definitions.
 // A contract is stated with those and met with these, so the two cannot drift apart where a proof uses them.
 
-// Numbers in files: what one group of seven bits can hold, and two, and three, which is the most there are.
+// Numbers in files: what one group of seven bits can hold, and two.
 pub const GROUP: usize = 128;
 
 pub const TWO_GROUPS: usize = GROUP * GROUP;
-
-pub const THREE_GROUPS: usize = GROUP * GROUP * GROUP;
 
 // The only version of a book and of a sheet.
 pub const VERSION: usize = 1;
@@ -60,7 +58,8 @@ pub const SHEET_FILE: usize = 65536;
 
 pub const RULES_FILE: usize = 32768;
 
-// Lent work areas: the most cells that a call may ask for, so that a cell's number fits sixteen bits; and the scratch for making one term.
+// Lent work areas: the most cells that a call may ask for, so that a cell's number fits sixteen bits.
 pub const WORK_CELLS: usize = 65536;
 
+// The cells in which one term is made, a derivative or a rule's normal form: no paper's number but ours.
 pub const SCRATCH: usize = 34816;

@@ -2,7 +2,7 @@
 // One function for each kind of answer; the calls for C, in the crate library, answer by them.
 ghost use mathlib.Core.Path.{_≡_};
 ghost use Rattle.number.specs.Refused.{number, place};
-ghost use Rattle.book.specs.Calls.{checked, told};
+ghost use Rattle.book.specs.Calls.{checked, kindTold};
 ghost use Rattle.table.specs.Calls.{counted, wrote};
 ghost use Rattle.cutting.specs.Calls.{ended};
 ghost use Rattle.comparing.specs.Calls.{compared};
@@ -66,7 +66,7 @@ pub fn tell_size(answer: &mut [usize; CELLS], found: Checked) -> usize
 }
 
 pub fn tell_kind(answer: &mut [usize; CELLS], found: RuleKind) -> usize
-    ensures { λ code. ⌜ left code (now (answer .exit)) ≡ packed toldKind (told found) ⌝ }
+    ensures { λ code. ⌜ left code (now (answer .exit)) ≡ packed toldKind (kindTold found) ⌝ }
 {
     match found {
         RuleKind::Kind(n) => give(answer, KIND, n, 0, 0),

@@ -6,7 +6,7 @@ use mathlib.Core.Path.{_≡_, sym, ap, _∙_}
 use mathlib.Core.List.{List}
 use lib.ListN.{getD}
 use Rattle.meaning.specs.Re.{Re}
-use Rattle.meaning.specs.Order.{kind}
+use Rattle.meaning.specs.Order.{rank}
 use Rattle.term.specs.declared.Term.{Term}
 use Rattle.term.specs.declared.Term.the-variants.{Nothing, Empty, Range, Cat, Alt, Star}
 use Rattle.term.specs.Cells.{nodeOf, grow, term, Below, Sound}
@@ -19,8 +19,8 @@ use Rattle.pool.specs.NodeLaws.{below-more}
 
 module _ (s : List ℕ) (top : ℕ) where
   -- the children of a node with a term of this kind stand in the pool
-  other : {A : Type 0} (u : Term) {x : Re} → grow u (term s) ≡ x → (kind (grow u (term s)) ≡ kind x → ⊥) → A
-  other u e h = absurd (h (ap kind e))
+  other : {A : Type 0} (u : Term) {x : Re} → grow u (term s) ≡ x → (rank (grow u (term s)) ≡ rank x → ⊥) → A
+  other u e h = absurd (h (ap rank e))
 
   cat-stands : (u : Term) {a b : Re} → Below u top → grow u (term s) ≡ Re.Cat a b → Stands s top a × Stands s top b
   cat-stands (Cat l r) h e = (record { at = l; within = h .0; is = cc }, record { at = r; within = h .1; is = cc })

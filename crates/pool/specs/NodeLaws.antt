@@ -11,13 +11,13 @@ use lib.Dec.{eqb}
 use lib.ListN.{length, getD}
 use lib.Seq.{getD-set-same}
 use Rattle.meaning.specs.Re.{Re}
-use Rattle.meaning.specs.Order.{kind}
+use Rattle.meaning.specs.Order.{rank}
 use Rattle.meaning.specs.Tests.{clash, and-true, true-and}
 use Rattle.term.specs.declared.Term.{Term}
 use Rattle.term.specs.declared.Term.the-variants.{Nothing, Empty, Range, Cat, Alt, Star}
 use Rattle.term.specs.Cells.{nodeOf, cellOf, grow, term, Below, Sound}
 use Rattle.term.specs.Nodes.{kindOf, firstOf, secondOf, Pushed}
-use Rattle.term.specs.ReadLaws.{kind-grow, rebuild, of-kind}
+use Rattle.term.specs.ReadLaws.{rank-grow, rebuild, of-kind}
 use Rattle.term.specs.CellLaws.{Same, frame, term-node, node-cell, below-fields}
 use Rattle.walk.specs.Parts.{holds, withTerm, Held}
 use Rattle.walk.specs.PartsLaws.{term-held, term-new}
@@ -73,28 +73,28 @@ below-more (Star l) i j b h = omega arith
 -- where children with equal terms are equal, nodes with equal terms are equal
 module _ (f : ℕ → Re) (top : ℕ) (apart : (i j : ℕ) → i < top → j < top → f i ≡ f j → i ≡ j) where
   node-grown : (u w : Term) → Below u top → Below w top → grow w f ≡ grow u f → w ≡ u
-  node-grown Nothing w b d e = of-kind w 0 (sym (kind-grow w f) ∙ ap kind e)
-  node-grown Empty w b d e = of-kind w 1 (sym (kind-grow w f) ∙ ap kind e)
+  node-grown Nothing w b d e = of-kind w 0 (sym (rank-grow w f) ∙ ap rank e)
+  node-grown Empty w b d e = of-kind w 1 (sym (rank-grow w f) ∙ ap rank e)
   node-grown (Range lo hi) w b d e =
-      let form : w ≡ Range (firstOf w) (secondOf w) = of-kind w 2 (sym (kind-grow w f) ∙ ap kind e) in
+      let form : w ≡ Range (firstOf w) (secondOf w) = of-kind w 2 (sym (rank-grow w f) ∙ ap rank e) in
       let g : Re.Range (firstOf w) (secondOf w) ≡ Re.Range lo hi = sym (ap (λ (v : Term). grow v f) form) ∙ e in
       cc
   node-grown (Cat a a′) w b d e =
-      let form : w ≡ Cat (firstOf w) (secondOf w) = of-kind w 3 (sym (kind-grow w f) ∙ ap kind e) in
+      let form : w ≡ Cat (firstOf w) (secondOf w) = of-kind w 3 (sym (rank-grow w f) ∙ ap rank e) in
       let g : Re.Cat (f (firstOf w)) (f (secondOf w)) ≡ Re.Cat (f a) (f a′) = sym (ap (λ (v : Term). grow v f) form) ∙ e in
       let l : Below (Cat (firstOf w) (secondOf w)) top = subst (λ (v : Term). Below v top) form d in
       let p : firstOf w ≡ a = apart (firstOf w) a (l .0) (b .0) (cc) in
       let q : secondOf w ≡ a′ = apart (secondOf w) a′ (l .1) (b .1) (cc) in
       cc
   node-grown (Alt a a′) w b d e =
-      let form : w ≡ Alt (firstOf w) (secondOf w) = of-kind w 4 (sym (kind-grow w f) ∙ ap kind e) in
+      let form : w ≡ Alt (firstOf w) (secondOf w) = of-kind w 4 (sym (rank-grow w f) ∙ ap rank e) in
       let g : Re.Alt (f (firstOf w)) (f (secondOf w)) ≡ Re.Alt (f a) (f a′) = sym (ap (λ (v : Term). grow v f) form) ∙ e in
       let l : Below (Alt (firstOf w) (secondOf w)) top = subst (λ (v : Term). Below v top) form d in
       let p : firstOf w ≡ a = apart (firstOf w) a (l .0) (b .0) (cc) in
       let q : secondOf w ≡ a′ = apart (secondOf w) a′ (l .1) (b .1) (cc) in
       cc
   node-grown (Star a) w b d e =
-      let form : w ≡ Star (firstOf w) = of-kind w 5 (sym (kind-grow w f) ∙ ap kind e) in
+      let form : w ≡ Star (firstOf w) = of-kind w 5 (sym (rank-grow w f) ∙ ap rank e) in
       let g : Re.Star (f (firstOf w)) ≡ Re.Star (f a) = sym (ap (λ (v : Term). grow v f) form) ∙ e in
       let l : Below (Star (firstOf w)) top = subst (λ (v : Term). Below v top) form d in
       let p : firstOf w ≡ a = apart (firstOf w) a l b (cc) in

@@ -59,7 +59,7 @@ fn hash_of(node: Term) -> usize
 }
 
 // The cell below `top` that holds this node, looked for along the chain of its hash, or `top` where none does.
-pub fn find_cell(index: &[usize], cells: &[u64], top: usize, node: Term) -> usize
+fn find_cell(index: &[usize], cells: &[u64], top: usize, node: Term) -> usize
     requires { ⌜ Indexed (now index) (now cells) top ⌝ }
     requires { ⌜ top ≤ length (now cells) ⌝ }
     requires { ⌜ Fields node ⌝ }
@@ -89,7 +89,7 @@ fn chain(index: &mut [usize], top: usize, node: Term)
 }
 
 // Puts a node whose children stand in the pool into the pool: in the cell that holds it already, or in a new one.
-pub fn put_node(index: &mut [usize], cells: &mut [u64], top: usize, node: Term) -> Placed
+fn put_node(index: &mut [usize], cells: &mut [u64], top: usize, node: Term) -> Placed
     requires { ⌜ Open (now index) (now cells) top 1 ⌝ }
     requires { ⌜ Below node top ⌝ }
     ensures { λ r. ⌜ After (now (cells .entry)) top (withTerm (termsOf (now (cells .entry)) top) (grow node (term (now (cells .entry)))))
@@ -141,7 +141,7 @@ fn find_term(index: &[usize], cells: &[u64], top: usize, i: usize) -> usize
 }
 
 // Copies the tree of a term to another area, children first; the answer is the place after it.
-pub fn copy_out(cells: &[u64], i: usize, out: &mut [u64], at: usize) -> usize
+fn copy_out(cells: &[u64], i: usize, out: &mut [u64], at: usize) -> usize
     requires { ⌜ Sound (now cells) (i + 1) ⌝ }
     requires { ⌜ Sound (now out) at ⌝ }
     requires { ⌜ Room (now out) at (size (term (now cells) i)) ⌝ }
@@ -170,7 +170,7 @@ pub fn copy_out(cells: &[u64], i: usize, out: &mut [u64], at: usize) -> usize
 }
 
 // Puts a term that stands in another area into the pool with all its parts, children first.
-pub fn put_copy(out: &[u64], k: usize, index: &mut [usize], cells: &mut [u64], top: usize) -> Placed
+fn put_copy(out: &[u64], k: usize, index: &mut [usize], cells: &mut [u64], top: usize) -> Placed
     requires { ⌜ Sound (now out) (k + 1) ⌝ }
     requires { ⌜ Open (now index) (now cells) top (size (term (now out) k)) ⌝ }
     ensures { λ r. ⌜ Put (now (cells .entry)) top (termsOf (now (cells .entry)) top) (now (index .exit)) (now (cells .exit)) (r .root) (r .top)

@@ -21,7 +21,8 @@ use Rattle.cutting.specs.Cut.{Ending, Cut, Cuts, cutBy}
 use Rattle.cutting.specs.Cut.Ending.{Done, StuckAt, FullAt}
 use Rattle.cutting.specs.Cut.Cuts.{done, stuck, full, word}
 use Rattle.cutting.specs.CutLaws.{first-by, cut-is}
-use Rattle.cutting.specs.TileLaws.{Finished, cut-enough, cut-on}
+use Rattle.cutting.specs.Tiles.{Finished}
+use Rattle.cutting.specs.TileLaws.{cut-enough, cut-on}
 use Rattle.lines.specs.Lines.{lineRoom}
 use Rattle.programs.specs.declared.words.Turn.{Turn}
 use Rattle.programs.specs.declared.words.Turn.the-variants.{Onward, Last}
@@ -87,11 +88,11 @@ module _ (F : Text → Found → Type 0) (some : (text : Text) (n r : ℕ) → F
       }
 
   -- with a record for each byte no cut is full
-  ample : (first : Text → Found) {room at : ℕ} {text : Text} {x : Cut} → Cuts F room at text x → length text ≤ room → Finished first (x .ending)
-  ample first (done room at) h = tt
-  ample first (stuck room at c w p) h = tt
-  ample first (full at c w n r p) h = absurd (omega arith)
-  ample first (word room at c w n r x p d) h = ample first d (omega (arith, length-drop n (c ∷ w), some (c ∷ w) n r p .0))
+  ample : {room at : ℕ} {text : Text} {x : Cut} → Cuts F room at text x → length text ≤ room → Finished (x .ending)
+  ample (done room at) h = tt
+  ample (stuck room at c w p) h = tt
+  ample (full at c w n r p) h = absurd (omega arith)
+  ample (word room at c w n r x p d) h = ample d (omega (arith, length-drop n (c ∷ w), some (c ∷ w) n r p .0))
 
 module _ (t : Table) (m k at : ℕ) (text : Text) (enough : length text ≤ k) where
   -- more records than enough change nothing
@@ -99,20 +100,20 @@ module _ (t : Table) (m k at : ℕ) (text : Text) (enough : length text ≤ k) w
   cut-ample =
       ap (λ (j : ℕ). cutBy (firstBy t) j at text) (add-comm m k)
       ∙ cut-enough (firstBy t) k m at text
-      (ample (FirstBy t) (proper t) (firstBy t) (cut-is (FirstBy t) (firstBy t) (first-by t) k at text) enough)
+      (ample (FirstBy t) (proper t) (cut-is (FirstBy t) (firstBy t) (first-by t) k at text) enough)
 
-  cut-over : Finished (firstBy t) (cutBy (firstBy t) m at text .ending) → cutBy (firstBy t) m at text ≡ cutBy (firstBy t) k at text
+  cut-over : Finished (cutBy (firstBy t) m at text .ending) → cutBy (firstBy t) m at text ≡ cutBy (firstBy t) k at text
   cut-over f = sym (cut-enough (firstBy t) m k at text f) ∙ cut-ample
 
-no-full : (first : Text → Found) (e : Ending) → Finished first e → (p : ℕ) → e ≡ FullAt p → ⊥
-no-full first Done f p e = not-done e
-no-full first (StuckAt q) f p e = not-stuck e
-no-full first (FullAt q) f p e = absurd f
+no-full : (e : Ending) → Finished e → (p : ℕ) → e ≡ FullAt p → ⊥
+no-full Done f p e = not-done e
+no-full (StuckAt q) f p e = not-stuck e
+no-full (FullAt q) f p e = absurd f
 
 pub never-full : (t : Table) (k at : ℕ) (text : Text) → length text ≤ k → (p : ℕ) → cutBy (firstBy t) k at text .ending ≡ FullAt p → ⊥
 never-full t k at text enough =
-    no-full (firstBy t) (cutBy (firstBy t) k at text .ending)
-    (ample (FirstBy t) (proper t) (firstBy t) (cut-is (FirstBy t) (firstBy t) (first-by t) k at text) enough)
+    no-full (cutBy (firstBy t) k at text .ending)
+    (ample (FirstBy t) (proper t) (cut-is (FirstBy t) (firstBy t) (first-by t) k at text) enough)
 
 -- ---- turns of the code
 
@@ -131,10 +132,10 @@ pub record Onwards (kinds : ℕ → ℕ) (s : ℕ) (labels targets : List ℕ) (
 no-stop : {p n : ℕ} → stop ≡ onward p n → ⊥
 no-stop e = let z : _≡_ {A = ℕ} 0 1 = cc in omega arith
 
-over-of : (first : Text → Found) (total : ℕ) (e : Ending) → stop ≡ nextBy total e → Finished first e
-over-of first total Done h = tt
-over-of first total (StuckAt p) h = tt
-over-of first total (FullAt p) h = absurd (no-stop h)
+over-of : (total : ℕ) (e : Ending) → stop ≡ nextBy total e → Finished e
+over-of total Done h = tt
+over-of total (StuckAt p) h = tt
+over-of total (FullAt p) h = absurd (no-stop h)
 
 abbrev Full : ℕ → ℕ → ℕ → Ending → Type 0
 Full p total n e = (e ≡ FullAt p) × (total ≡ n)
@@ -164,7 +165,7 @@ module _ (kinds : ℕ → ℕ) (s : ℕ) (labels targets : List ℕ) (text : Tex
       go true h =
           let c = cutBy (firstBy tbl) m place rest in
           ap (cutLines kinds before)
-          (cut-over tbl m (length text) place rest enough (over-of (firstBy tbl) (before + length (c .words)) (c .ending) h))
+          (cut-over tbl m (length text) place rest enough (over-of (before + length (c .words)) (c .ending) h))
       go false h = refl
 
   module _ (p total : ℕ) (some : 0 < m) where

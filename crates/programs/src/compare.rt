@@ -58,9 +58,9 @@ fn compare_in<'a>(
     ensures { λ end. ⌜ Writes (verdictLines (compareFiles (now (book .entry)) (now (sheet .entry)))) (now (out .entry)) (now (out .exit)) 0 end ⌝ }
     ensures { λ end. ⌜ end ≤ length (now (out .exit)) ⌝ }
 {
-    match book::check_book(book) {
+    match checking::check_book(book) {
         Checked::Refused(r) => lines::put_refused(r, out, 0),
-        Checked::Counts(_, _) => match table::load(sheet, labels, targets) {
+        Checked::Counts(_, _) => match loading::load(sheet, labels, targets) {
             Counted::Refused(r) => lines::put_refused(r, out, 0),
             Counted::States(count) => {
                 let answer = comparing::compare_book(book, count, labels, targets, area, work);

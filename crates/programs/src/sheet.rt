@@ -46,7 +46,7 @@ fn sheet_in(
 {
     match building::build(book, labels, targets, work) {
         Counted::Refused(r) => refused(r, out),
-        Counted::States(count) => match table::write_sheet(count, labels, targets, out) {
+        Counted::States(count) => match writing::write_sheet(count, labels, targets, out) {
             Written::Bytes(end) => Made::Sheet(end),
             Written::Unwritten(r) => refused(r, out),
         },

@@ -23,7 +23,7 @@ pub(crate) enum Turn {
 fn kind_in(book: &[u8], rule: usize) -> usize
     ensures { λ r. ⌜ r ≡ kindOfRule (now (book .entry)) rule ⌝ }
 {
-    match book::rule_kind(book, rule) {
+    match places::rule_kind(book, rule) {
         RuleKind::Kind(kind) => kind,
         RuleKind::NoRule => 0,
         RuleKind::Unknown(_) => 0,

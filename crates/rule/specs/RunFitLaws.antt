@@ -16,7 +16,7 @@ use Rattle.book.specs.declared.Node.{Node}
 use Rattle.book.specs.declared.Node.the-variants.{Nothing, Empty, Range, Cat, Alt, Star, Either}
 use Rattle.book.specs.Book.{Rule, takes}
 use Rattle.book.specs.Valid.{Leaves, ValidRule}
-use Rattle.book.specs.Expression.{stacked, run, top, expression}
+use Rattle.book.specs.Expression.{stacked, runNodes, top, expression}
 use Rattle.book.specs.ExpressionLaws.{stacked-length}
 use Rattle.rule.specs.RunFit.{second, large, small, made, runFit}
 
@@ -98,8 +98,8 @@ some-alone (here a es p) e = p
 some-alone (later (here a es p)) e = absurd (omega arith)
 some-alone (later (later o)) e = absurd (omega arith)
 
-some-run : (ns : List Node) {es : List Re} (terms : ℕ) → Leaves terms ns → length es ≡ terms → Some es → normalFit (top (run ns es)) ≡ Long
-unfolding run
+some-run : (ns : List Node) {es : List Re} (terms : ℕ) → Leaves terms ns → length es ≡ terms → Some es → normalFit (top (runNodes ns es)) ≡ Long
+unfolding runNodes
 some-run [] terms h e o = some-alone o (e ∙ h)
 some-run (n ∷ ns) {es} terms h e o =
     let enough : takes n ≤ length es = omega (arith, h .1) in
@@ -111,8 +111,8 @@ each-alone none e = absurd (omega arith)
 each-alone (more p ps) e = sym p
 
 run-fits : (ns : List Node) {es vs : List Re} (terms : ℕ) → Leaves terms ns → length es ≡ terms → Each es vs
-    → runFit ns vs ≡ normalFit (top (run ns es))
-unfolding run runFit
+    → runFit ns vs ≡ normalFit (top (runNodes ns es))
+unfolding runNodes runFit
 run-fits [] terms h e ps = each-alone ps (e ∙ h)
 run-fits (n ∷ ns) {es} {vs} terms h e ps =
     let enough : takes n ≤ length es = omega (arith, h .1) in
@@ -123,9 +123,9 @@ run-fits (n ∷ ns) {es} {vs} terms h e ps =
     (λ v p. run-fits ns (terms - takes n + 1) (h .2) after (rw parts (more p (each-drop (takes n) ps))))
   where
     go : (m : Fit) → normalFit (top (stacked n es)) ≡ m
-        → (normalFit (top (stacked n es)) ≡ Long → normalFit (top (run ns (stacked n es))) ≡ Long)
-        → ((v : Re) → normalFit (top (stacked n es)) ≡ Fits v → runFit ns (v ∷ drop (takes n) vs) ≡ normalFit (top (run ns (stacked n es))))
-        → (m >>= λ v. runFit ns (v ∷ drop (takes n) vs)) ≡ normalFit (top (run ns (stacked n es)))
+        → (normalFit (top (stacked n es)) ≡ Long → normalFit (top (runNodes ns (stacked n es))) ≡ Long)
+        → ((v : Re) → normalFit (top (stacked n es)) ≡ Fits v → runFit ns (v ∷ drop (takes n) vs) ≡ normalFit (top (runNodes ns (stacked n es))))
+        → (m >>= λ v. runFit ns (v ∷ drop (takes n) vs)) ≡ normalFit (top (runNodes ns (stacked n es)))
     go Long p long fits = sym (long p)
     go (Fits v) p long fits = fits v p
 

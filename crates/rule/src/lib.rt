@@ -108,7 +108,7 @@ pub fn rule_term(book: &[u8], rule: usize, cells: &mut [u64], top: usize) -> Mad
     requires { ⌜ Room (now cells) top ruleScratch ⌝ }
     ensures { λ r. ⌜ RuleMade (now (book .entry)) rule (now (cells .entry)) top (now (cells .exit)) r ⌝ }
 {
-    let place = book::rule_place(book, rule);
+    let place = places::rule_place(book, rule);
     let mut stack = [0usize; NODES + 2];
     work(book, place.at, place.nodes, cells, top, &mut stack, 0)
 }

@@ -1,7 +1,7 @@
 -- What the calls on sheets answer and leave in lent memory, for every input: the promises of load and write_sheet cite these.
 -- A refusal is the paper's by Refused; the order of refusals is the order of the tests.
 use Prim.Native.Nat.{ℕ, _-_}
-use mathlib.Core.Bool.{Bool, true, false, cond, _||_}
+use mathlib.Core.Bool.{Bool, cond, _||_}
 use mathlib.Core.List.{List, _++_}
 use lib.Dec.{ltb}
 use lib.ListN.{length, drop, replicate}

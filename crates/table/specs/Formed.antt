@@ -26,21 +26,21 @@ unfoldable pub covered : List Run → ℕ
 covered [] = 0
 covered (r ∷ rs) = r .len + covered rs
 
--- no run comes first, or one to another target than t
-abbrev pub Leaves : ℕ → List Run → Type 0
-Leaves t [] = Unit {0}
-Leaves t (r ∷ rs) = r .target ≡ t → ⊥
+-- no run comes first, or one that leads elsewhere than to t
+abbrev pub TurnsFrom : ℕ → List Run → Type 0
+TurnsFrom t [] = Unit {0}
+TurnsFrom t (r ∷ rs) = r .target ≡ t → ⊥
 
 -- each run covers a byte or more and is as long as it can be: the next one has another target
 abbrev pub Proper : List Run → Type 0
 Proper [] = Unit {0}
-Proper (r ∷ rs) = (1 ≤ r .len) × Leaves (r .target) rs × Proper rs
+Proper (r ∷ rs) = (1 ≤ r .len) × TurnsFrom (r .target) rs × Proper rs
 
 -- what comes next in a row is not the target t: the row ends, or another target stands there
 abbrev pub Ends : ℕ → List ℕ → Type 0
 Ends t row = 0 < length row → getD row 0 0 ≡ t → ⊥
 
--- the most bytes of a state, 771, and of a sheet, 196,608: as many are needed where no row has two equal neighbours and each target takes two bytes
+-- the most bytes of a state, 771, and of a sheet, 196,608: just so many has a sheet of 255 states in which no row has two equal neighbours and each target takes two bytes
 abbrev pub longestState : ℕ
 longestState = 1 + (2 + 3 * bytes)
 

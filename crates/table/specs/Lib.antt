@@ -12,9 +12,6 @@ pub mod SheetBytes
 pub mod SheetLongest
 pub mod SheetCalls
 pub mod TableLaws
-pub mod WritingLaws
-pub mod WriteLaws
-pub mod ReadingLaws
+pub mod FillLaws
 pub mod SheetReaders
-pub mod LoadLaws
 pub mod Main

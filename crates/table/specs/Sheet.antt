@@ -1,7 +1,7 @@
 -- A sheet: how a table is read from bytes and written to them, as document 01 has it.
 -- Reading refuses what is wrong at its place; writing gives each row its runs, each as long as it can be.
 use Prim.Native.Nat.{ℕ, zero, suc, _+_, _-_}
-use mathlib.Core.Bool.{Bool, true, false, cond}
+use mathlib.Core.Bool.{cond}
 use mathlib.Core.List.{List, [], _∷_, _++_}
 use lib.Dec.{ltb, eqb}
 use lib.ListN.{length, take, drop, replicate}

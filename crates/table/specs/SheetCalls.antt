@@ -52,16 +52,16 @@ sheet-one t u f g e =
 -- ---- write, then load
 
 -- an output that a table was written to, with the count that was answered: it begins with the table's sheet
-pub record Holds (t : Table) (n : ℕ) (out : List ℕ) : Type 0 where
+pub record HasSheet (t : Table) (n : ℕ) (out : List ℕ) : Type 0 where
   pub formed : Formed t
   pub size : n ≡ length (writeSheet t)
   pub front : take n out ≡ writeSheet t
 
-pub write-holds : (s : ℕ) (labels targets out : List ℕ) (n : ℕ) → writeOf s labels targets out .answer ≡ gives n
-    → Holds (lent s labels targets) n (writeOf s labels targets out .out)
-write-holds s labels targets out n =
+pub write-has-sheet : (s : ℕ) (labels targets out : List ℕ) (n : ℕ) → writeOf s labels targets out .answer ≡ gives n
+    → HasSheet (lent s labels targets) n (writeOf s labels targets out .out)
+write-has-sheet s labels targets out n =
     let t : Table = lent s labels targets in
-    let P : Output → Type 0 = λ o. o .answer ≡ gives n → Holds t n (o .out) in
+    let P : Output → Type 0 = λ o. o .answer ≡ gives n → HasSheet t n (o .out) in
     by-cond P (wellFormed s labels targets)
     (λ well. by-cond P (ltb (length out) (length (writeSheet t)))
     (λ cramped e. absurd (clash e))
@@ -76,7 +76,7 @@ pub write-then-load : (s : ℕ) (labels targets out : List ℕ) (n : ℕ) (label
     → loadOf (take n (writeOf s labels targets out .out)) labels′ targets′ ≡ filledWith labels′ targets′ (lent s labels targets)
 write-then-load s labels targets out n labels′ targets′ e wide =
     let t : Table = lent s labels targets in
-    let told : Holds t n (writeOf s labels targets out .out) = write-holds s labels targets out n e in
+    let told : HasSheet t n (writeOf s labels targets out .out) = write-has-sheet s labels targets out n e in
     simp (wide, told .front, sheet-read-back t (told .formed))
 
 -- ---- load, then write
@@ -96,32 +96,32 @@ write-fits s labels targets out f room =
     (write-formed s labels targets out _ f refl (omega (arith, sheet-length (lent s labels targets) f)))
 
 -- memory that was filled with a formed table holds it
-filled-holds : (t : Table) (labels targets : List ℕ) → Formed t
+filled-has-table : (t : Table) (labels targets : List ℕ) → Formed t
     → lent (t .count) (padded (length labels) (t .labels)) (padded (length targets) (t .targets)) ≡ t
-filled-holds t labels targets f =
+filled-has-table t labels targets f =
     rw (
       take-at (t .labels) (replicate (length labels - length (t .labels)) 0) (t .count) (f .labelled),
       take-at (t .targets) (replicate (length targets - length (t .targets)) 0) (t .count * bytes) (f .filled),
     )
 
 -- what a file that was loaded left: the table that it holds, which is formed, in the table area
-pub record Held (file : List ℕ) (s : ℕ) (labels targets : List ℕ) : Type 0 where
+pub record HasTable (file : List ℕ) (s : ℕ) (labels targets : List ℕ) : Type 0 where
   pub formed : Formed (lent s labels targets)
   pub written : writeSheet (lent s labels targets) ≡ file
 
-pub load-holds : (file labels targets : List ℕ) (s : ℕ) → Bytes file → loadOf file labels targets .answer ≡ gives s
-    → Held file s (loadOf file labels targets .labels) (loadOf file labels targets .targets)
-load-holds file labels targets s all =
+pub load-has-table : (file labels targets : List ℕ) (s : ℕ) → Bytes file → loadOf file labels targets .answer ≡ gives s
+    → HasTable file s (loadOf file labels targets .labels) (loadOf file labels targets .targets)
+load-has-table file labels targets s all =
     by-cond P (cramped labels targets) (λ small e. absurd (clash e)) (λ wide. go (readSheet file) refl)
   where
     P : Filled → Type 0
-    P x = x .answer ≡ gives s → Held file s (x .labels) (x .targets)
+    P x = x .answer ≡ gives s → HasTable file s (x .labels) (x .targets)
 
     go : (a : Answer Table) → readSheet file ≡ a → P (loadRead labels targets a)
     go (got t after) r e =
         let count : t .count ≡ s = cc in
         let told : SheetRead file t after = sheet-back file all t after r in
-        let same = filled-holds t labels targets (told .formed) in
+        let same = filled-has-table t labels targets (told .formed) in
         rw (← count) (record { formed = rw same (told .formed); written = ap writeSheet same ∙ told .written })
     go (refused q) r e = absurd (clash e)
 
@@ -131,11 +131,11 @@ pub load-then-write : (file labels targets out : List ℕ) (s : ℕ) → Bytes f
     → writeOf s (loadOf file labels targets .labels) (loadOf file labels targets .targets) out
     ≡ record { answer = gives (length file); out = file ++ drop (length file) out }
 load-then-write file labels targets out s all e room =
-    let told = load-holds file labels targets s all e in
+    let told = load-has-table file labels targets s all e in
     write-formed s (loadOf file labels targets .labels) (loadOf file labels targets .targets) out file
     (told .formed) (told .written) room
 
 -- a table that was loaded is well formed
 pub load-well-formed : (file labels targets : List ℕ) (s : ℕ) → Bytes file → loadOf file labels targets .answer ≡ gives s
     → wellFormed s (loadOf file labels targets .labels) (loadOf file labels targets .targets) ≡ true
-load-well-formed file labels targets s all e = formed-well s _ _ (load-holds file labels targets s all e .formed)
+load-well-formed file labels targets s all e = formed-well s _ _ (load-has-table file labels targets s all e .formed)

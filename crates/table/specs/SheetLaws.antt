@@ -20,10 +20,10 @@ use Rattle.number.specs.NumberLaws.{NumberAt, FieldAt, written-read, field-writ
 use Rattle.table.specs.Table.{Table}
 use Rattle.table.specs.Sheet.{Rows, Run, readRuns, readStates, sheet, readSheet}
 use Rattle.table.specs.Sheet.{runsOf, writeRuns, writeRow, writeStates, writeSheet}
-use Rattle.table.specs.Formed.{Formed, expanded, covered, Leaves, Proper}
+use Rattle.table.specs.Formed.{Formed, expanded, covered, TurnsFrom, Proper}
 use Rattle.table.specs.SheetFormed.{Each, each-none, each-cons, each-tail, each-append, each-take, each-drop}
 use Rattle.table.specs.SheetRuns.{Below, runs-expanded, runs-proper, runs-count, runs-covered, runs-below}
-use Rattle.table.specs.SheetRuns.{below-leaves, below-expanded, covered-expanded, expanded-runs}
+use Rattle.table.specs.SheetRuns.{below-turns, below-expanded, covered-expanded, expanded-runs}
 
 -- ---- steps of a reader
 
@@ -102,14 +102,14 @@ module _ (file : List ℕ) where
       rw (p .after) (field-written n file lo hi at (drop next file) small low high (p .here))
 
   -- with `sum` bytes covered before and the target `last` before them, as the reader has it
-  runs-stand : (s : ℕ) (rs : List Run) (sum last at next : ℕ) → s ≤ states → Proper rs → Leaves last rs → Below s rs
+  runs-stand : (s : ℕ) (rs : List Run) (sum last at next : ℕ) → s ≤ states → Proper rs → TurnsFrom last rs → Below s rs
       → sum + covered rs ≡ bytes → Stands file at (writeRuns rs) next
       → readRuns file s (length rs) sum last at ≡ got (expanded rs) next
   unfolding readRuns writeRuns expanded covered
-  runs-stand s [] sum last at next most proper leaves below whole p =
+  runs-stand s [] sum last at next most proper turns below whole p =
       let place : next ≡ at = omega (arith, p .after) in
       rw place (simp (le-ltb sum bytes (omega arith)))
-  runs-stand s (r ∷ rs) sum last at next most proper leaves below whole p =
+  runs-stand s (r ∷ rs) sum last at next most proper turns below whole p =
       let v : List ℕ = writeNumber (r .len) in
       let w : List ℕ = writeNumber (r .target) in
       let mid : ℕ = at + length v in
@@ -122,7 +122,7 @@ module _ (file : List ℕ) where
       let readRest : readRuns file s (length rs) (sum + r .len) (r .target) (mid + length w) ≡ got (expanded rs) next =
       runs-stand s rs (sum + r .len) (r .target) (mid + length w) next most (proper .2) (proper .1) (below .1) (omega arith)
       (stands-back mid next w (writeRuns rs) q) in
-      simp (readLen, le-ltb bytes (sum + r .len) (omega arith), readTarget, ne-eqb (r .target) last leaves, readRest)
+      simp (readLen, le-ltb bytes (sum + r .len) (omega arith), readTarget, ne-eqb (r .target) last turns, readRest)
 
   row-stands : (s : ℕ) (row : List ℕ) (at next : ℕ) → s ≤ states → length row ≡ bytes → Each (λ t. t < s) row
       → Stands file at (writeRow row) next
@@ -139,7 +139,7 @@ module _ (file : List ℕ) where
         field-stands m 1 bytes at (at + length v) (omega (arith, runs-count row)) some (omega (arith, runs-count row))
             (stands-front at next v w p),
         rw (runs-expanded row) at
-            (runs-stand s (runsOf row) 0 s (at + length v) next most (runs-proper row) (below-leaves s (runsOf row) below) below (omega arith)
+            (runs-stand s (runsOf row) 0 s (at + length v) next most (runs-proper row) (below-turns s (runsOf row) below) below (omega arith)
             (stands-back at next v w p)),
       )
 
@@ -214,7 +214,7 @@ module _ (file : List ℕ) where
     runs : List Run
     count : length runs ≡ k
     proper : Proper runs
-    leaves : Leaves last runs
+    turns : TurnsFrom last runs
     below : Below s runs
     whole : sum + covered runs ≡ bytes
     stands-for : row ≡ expanded runs
@@ -253,7 +253,7 @@ module _ (file : List ℕ) (all : Bytes file) where
         runs = [];
         count = refl;
         proper = tt;
-        leaves = tt;
+        turns = tt;
         below = tt;
         whole = omega (arith, ltb-false sum bytes enough);
         stands-for = none;
@@ -274,8 +274,8 @@ module _ (file : List ℕ) (all : Bytes file) where
       record {
         runs = record { len = len; target = target } ∷ told .runs;
         count = ap suc (told .count);
-        proper = (len-told .low, told .leaves, told .proper);
-        leaves = eqb-false _ _ other;
+        proper = (len-told .low, told .turns, told .proper);
+        turns = eqb-false _ _ other;
         below = (omega (arith, target-told .high), told .below);
         whole = omega (arith, told .whole);
         stands-for = whole-row ∙ ap (λ (r : List ℕ). replicate len target ++ r) (told .stands-for);

@@ -4,23 +4,48 @@ use Prim.Native.Nat.{ℕ, zero, suc, _≤_, _<_}
 use native.Mathlib.Omega.{arith}
 use mathlib.Core.Path.{_≡_, refl, sym, ap, _∙_}
 use mathlib.Core.List.{List}
+use borrow.Author.Tests.{lt-ltb, le-ltb}
 use lib.Dec.{ltb}
 use lib.ListN.{length}
 use Rattle.number.specs.declared.Refusal.{Refusal}
-use Rattle.number.specs.declared.Refusal.the-variants.{Range}
+use Rattle.number.specs.declared.Refusal.the-variants.{Tail, Range}
 use Rattle.number.specs.Limits.{version, states}
 use Rattle.number.specs.Refused.{Answer}
 use Rattle.number.specs.Refused.Answer.{got, refused}
 use Rattle.number.specs.Numbers.{Bytes, readNumber, field}
-use Rattle.number.specs.Reading.{onward}
-use Rattle.number.specs.NumberLaws.{Written, width-is, written-read, read-written, field-read, field-refused, field-low, field-high, field-got}
+use Rattle.number.specs.NumberLaws.{width-is, written-read, field-read, field-refused, field-low, field-high, field-got}
 use Rattle.number.specs.NumberLaws.Written.{one}
 use Rattle.table.specs.Table.{Table}
-use Rattle.table.specs.Sheet.{sheet, readStates, readSheetTo, readSheet, countTold, writeSheet}
+use Rattle.table.specs.Sheet.{Rows, sheet, readStates, readSheetTo, readSheet, countTold, writeSheet}
 use Rattle.table.specs.Formed.{Formed}
 use Rattle.table.specs.SheetBytes.{sheet-bytes}
 use Rattle.table.specs.SheetLaws.{SheetRead, clash, got-onward, got-past, sheet-read-back, sheet-back}
-use Rattle.table.specs.ReadingLaws.{sheet-no-version, sheet-no-count}
+
+-- the ways of reading a whole sheet, whatever the reader's limit
+module _ (file : List ℕ) (most : ℕ) where
+  pub sheet-no-version : {q : Refusal} → field file version version 0 ≡ refused q → readSheetTo file most ≡ refused q
+  unfolding sheet
+  sheet-no-version e = simp e
+
+  module _ {v at1 : ℕ} (version-got : field file version version 0 ≡ got v at1) where
+    pub sheet-no-count : {q : Refusal} → field file 1 most at1 ≡ refused q → readSheetTo file most ≡ refused q
+    unfolding sheet
+    sheet-no-count e = simp (version-got, e)
+
+    module _ {s at2 : ℕ} (count-got : field file 1 most at1 ≡ got s at2) where
+      pub sheet-no-states : {q : Refusal} → readStates file s s at2 ≡ refused q → readSheetTo file most ≡ refused q
+      unfolding sheet
+      sheet-no-states e = simp (version-got, count-got, e)
+
+      module _ {rows : Rows} {next : ℕ} (states-got : readStates file s s at2 ≡ got rows next) where
+        pub sheet-tail : next < length file → readSheetTo file most ≡ refused (Tail next)
+        unfolding sheet
+        sheet-tail h = simp (version-got, count-got, states-got, lt-ltb _ _ h)
+
+        pub sheet-got : length file ≤ next
+            → readSheetTo file most ≡ got (record { count = s; labels = rows .labels; targets = rows .targets }) next
+        unfolding sheet
+        sheet-got h = simp (version-got, count-got, states-got, le-ltb _ _ h)
 
 module _ (file : List ℕ) where
   -- how the version's field came out

@@ -10,7 +10,7 @@ use lib.ListN.{length, getD, replicate, length-append, length-replicate}
 use Rattle.number.specs.Branch.{by-cond}
 use Rattle.table.specs.Sheet.{Run, joined, runsOf}
 use Rattle.table.specs.SheetFormed.{Each, each-none, each-tail, each-append, each-replicate}
-use Rattle.table.specs.Formed.{expanded, covered, Leaves, Proper, Ends}
+use Rattle.table.specs.Formed.{expanded, covered, TurnsFrom, Proper, Ends}
 
 -- ---- one byte more in front
 
@@ -105,34 +105,34 @@ below-expanded s (r ∷ rs) b =
     (each-replicate (λ t. t < s) (r .len) (r .target) (b .0)) (below-expanded s rs (b .1))
 
 -- s is the target of no run
-pub below-leaves : (s : ℕ) (rs : List Run) → Below s rs → Leaves s rs
-below-leaves s [] b = tt
-below-leaves s (r ∷ rs) b = λ e. omega (arith, b .0)
+pub below-turns : (s : ℕ) (rs : List Run) → Below s rs → TurnsFrom s rs
+below-turns s [] b = tt
+below-turns s (r ∷ rs) b = λ e. omega (arith, b .0)
 
 -- ---- run by run
 
 -- a byte in front of runs that it does not join
-joined-new : (t : ℕ) (rs : List Run) → Leaves t rs → joined t rs ≡ record { len = 1; target = t } ∷ rs
+joined-new : (t : ℕ) (rs : List Run) → TurnsFrom t rs → joined t rs ≡ record { len = 1; target = t } ∷ rs
 unfolding joined
 joined-new t [] n = refl
 joined-new t (r ∷ rs) n = joined-other t r rs (λ e. n (sym e))
 
 -- runs of a row that does not begin with t do not begin with t
-joined-leaves : (t x : ℕ) (rs : List Run) → (x ≡ t → ⊥) → Leaves t (joined x rs)
+joined-turns : (t x : ℕ) (rs : List Run) → (x ≡ t → ⊥) → TurnsFrom t (joined x rs)
 unfolding joined
-joined-leaves t x [] n = n
-joined-leaves t x (r ∷ rs) n = by-cond (Leaves t) (eqb x (r .target)) (λ h. n) (λ h. n)
+joined-turns t x [] n = n
+joined-turns t x (r ∷ rs) n = by-cond (TurnsFrom t) (eqb x (r .target)) (λ h. n) (λ h. n)
 
-runs-leave : (t : ℕ) (row : List ℕ) → Ends t row → Leaves t (runsOf row)
+runs-turn : (t : ℕ) (row : List ℕ) → Ends t row → TurnsFrom t (runsOf row)
 unfolding runsOf
-runs-leave t [] n = tt
-runs-leave t (x ∷ xs) n = joined-leaves t x (runsOf xs) (n (omega arith))
+runs-turn t [] n = tt
+runs-turn t (x ∷ xs) n = joined-turns t x (runsOf xs) (n (omega arith))
 
 -- the first run of a row goes as far as the row has its target
 pub runs-first : (n t : ℕ) (rest : List ℕ) → Ends t rest
     → runsOf (replicate (suc n) t ++ rest) ≡ record { len = suc n; target = t } ∷ runsOf rest
 unfolding runsOf
-runs-first zero t rest ends = joined-new t (runsOf rest) (runs-leave t rest ends)
+runs-first zero t rest ends = joined-new t (runsOf rest) (runs-turn t rest ends)
 runs-first (suc n) t rest ends =
     ap (joined t) (runs-first n t rest ends) ∙ joined-same t (record { len = suc n; target = t }) (runsOf rest) refl
 
@@ -145,7 +145,7 @@ runs-from (suc n) t rest h ends = runs-first n t rest ends
 -- ---- no other runs
 
 -- the row of proper runs begins with the first run's target
-expanded-ends : (t : ℕ) (rs : List Run) → Proper rs → Leaves t rs → Ends t (expanded rs)
+expanded-ends : (t : ℕ) (rs : List Run) → Proper rs → TurnsFrom t rs → Ends t (expanded rs)
 unfolding expanded
 expanded-ends t [] p n = λ h. absurd (omega arith)
 expanded-ends t (r ∷ rs) p n = λ _. go (r .len) (p .0)

@@ -1,7 +1,7 @@
 -- A loaded table: a count of states, one label a state and 256 targets a state, in lent memory for 255 states.
 -- Only the first states of the lent memory are the table; what stands past them is not looked at.
 use Prim.Native.Nat.{ℕ, _*_}
-use mathlib.Core.Bool.{Bool, true, false, _&&_}
+use mathlib.Core.Bool.{Bool, true, _&&_}
 use mathlib.Core.List.{List, [], _∷_}
 use lib.Dec.{leb, ltb}
 use lib.ListN.{length, take}

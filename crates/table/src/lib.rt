@@ -1,22 +1,15 @@
-// Tables in lent memory: well formed or not, read from a sheet, written to one.
-// Labels hold one cell a state and targets 256; the calls take every input and leave what specs/Calls.antt says.
+// Tables in lent memory: labels hold one cell a state and targets 256. Whether they are a table is tested here; sheets are read
+// and written in the crates loading and writing, which answer by the types of this one.
 ghost use mathlib.Core.Path.{_≡_};
-ghost use Prim.Native.Nat.{ℕ, _≤_};
+ghost use Prim.Native.Nat.{ℕ, _-_, _≤_};
 ghost use lib.Dec.{ltb};
-ghost use lib.ListN.{length, take};
+ghost use lib.ListN.{length, take, replicate};
+ghost use Rattle.number.specs.Lists.{written};
 ghost use Rattle.table.specs.Table.{all, wellFormed};
-ghost use Rattle.table.specs.Promises.{Loads, WritesSheet};
-
-pub mod reading;
-mod writing;
-
 use number::Refusal;
-use number::Taken;
 use number::limits::BYTES;
 use number::limits::RULES;
 use number::limits::STATES;
-use number::limits::TABLE_CELLS;
-use number::limits::VERSION;
 
 // The longest sheet: version and count in three bytes, and for each state a label, a run count in two bytes, and 256 runs of three,
 // since a target of 128 and up takes two.
@@ -32,6 +25,18 @@ pub enum Counted {
 pub enum Written {
     Bytes(usize),
     Unwritten(Refusal),
+}
+
+// One value into the cells from `from` to `end`.
+pub fn fill(cells: &mut [u8], from: usize, end: usize, value: u8)
+    requires { ⌜ (from ≤ end) × (end ≤ length (now cells)) ⌝ }
+    ensures { λ _. ⌜ now (cells .exit) ≡ written (now (cells .entry)) from (replicate (end - from) value) ⌝ }
+{
+    let mut i = from;
+    while i < end {
+        cells[i] = value;
+        i += 1;
+    }
 }
 
 // Each of the first cells is below a limit.
@@ -71,49 +76,4 @@ pub fn well_formed(count: usize, labels: &[u8], targets: &[u8]) -> bool
         return all_below(targets, cells, count);
     }
     false
-}
-
-// A sheet is read into the table area. The area is gone over once: the states that were read stay, all else is made 0.
-pub fn load(sheet: &[u8], labels: &mut [u8], targets: &mut [u8]) -> Counted
-    ensures { λ r. ⌜ Loads (now (sheet .entry)) (now (labels .entry)) (now (targets .entry))
-        (now (labels .exit)) (now (targets .exit)) r ⌝ }
-{
-    let labels_end = labels.len();
-    let targets_end = targets.len();
-    if labels_end < STATES {
-        return Counted::Refused(Refusal::Room);
-    }
-    if targets_end < TABLE_CELLS {
-        return Counted::Refused(Refusal::Room);
-    }
-    let got = reading::read_sheet(sheet, labels, targets);
-    match got {
-        Taken::Value(count, _) => {
-            reading::fill(labels, count, labels_end, 0);
-            reading::fill(targets, count * BYTES, targets_end, 0);
-            Counted::States(count)
-        }
-        Taken::Refused(r) => {
-            reading::fill(labels, 0, labels_end, 0);
-            reading::fill(targets, 0, targets_end, 0);
-            Counted::Refused(r)
-        }
-    }
-}
-
-// A table is written as its sheet, if it is well formed and the sheet has room.
-pub fn write_sheet<'a>(count: usize, labels: &'a [u8], targets: &'a [u8], out: &mut [u8]) -> Written
-    ensures { λ r. ⌜ WritesSheet count (now (labels .entry)) (now (targets .entry))
-        (now (out .entry)) (now (out .exit)) r ⌝ }
-{
-    if !well_formed(count, labels, targets) {
-        return Written::Unwritten(Refusal::Loaded);
-    }
-    if out.len() < writing::sheet_length(count, labels, targets) {
-        return Written::Unwritten(Refusal::Room);
-    }
-    let at_count = number::write_number(VERSION, out, 0);
-    let at_states = number::write_number(count, out, at_count);
-    let end = writing::write_states(count, 0, labels, targets, out, at_states);
-    Written::Bytes(end)
 }

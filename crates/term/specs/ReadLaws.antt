@@ -10,7 +10,7 @@ use lib.Dec.{eqb, leb, ltb}
 use borrow.Author.Tests.{lt-ltb, le-ltb, le-leb, lt-leb}
 use Rattle.number.specs.Limits.{treeNodes}
 use Rattle.meaning.specs.Re.{Re, size}
-use Rattle.meaning.specs.Order.{order, also, kind}
+use Rattle.meaning.specs.Order.{order, also, rank}
 use Rattle.meaning.specs.OrderLaws.{order-self}
 use Rattle.meaning.specs.Derive.{nullable}
 use Rattle.term.specs.declared.Term.{Term}
@@ -150,31 +150,31 @@ compare-same (suc m) zero h = absurd (omega arith)
 compare-same (suc m) (suc n) h = compare·suc-suc m n ∙ compare-same m n (omega arith)
 
 -- two kinds decide
-kinds-less : (x y : Re) → compare (kind x) (kind y) ≡ Ordering·lt → order x y ≡ Ordering·lt
+ranks-less : (x y : Re) → compare (rank x) (rank y) ≡ Ordering·lt → order x y ≡ Ordering·lt
 unfolding order
-kinds-less Re.Nothing y e = e
-kinds-less Re.Empty y e = e
-kinds-less (Re.Range lo hi) y e = rw e
-kinds-less (Re.Cat a b) y e = rw e
-kinds-less (Re.Alt a b) y e = rw e
-kinds-less (Re.Star a) y e = rw e
+ranks-less Re.Nothing y e = e
+ranks-less Re.Empty y e = e
+ranks-less (Re.Range lo hi) y e = rw e
+ranks-less (Re.Cat a b) y e = rw e
+ranks-less (Re.Alt a b) y e = rw e
+ranks-less (Re.Star a) y e = rw e
 
-kinds-more : (x y : Re) → compare (kind x) (kind y) ≡ Ordering·gt → order x y ≡ Ordering·gt
+ranks-more : (x y : Re) → compare (rank x) (rank y) ≡ Ordering·gt → order x y ≡ Ordering·gt
 unfolding order
-kinds-more Re.Nothing y e = e
-kinds-more Re.Empty y e = e
-kinds-more (Re.Range lo hi) y e = rw e
-kinds-more (Re.Cat a b) y e = rw e
-kinds-more (Re.Alt a b) y e = rw e
-kinds-more (Re.Star a) y e = rw e
+ranks-more Re.Nothing y e = e
+ranks-more Re.Empty y e = e
+ranks-more (Re.Range lo hi) y e = rw e
+ranks-more (Re.Cat a b) y e = rw e
+ranks-more (Re.Alt a b) y e = rw e
+ranks-more (Re.Star a) y e = rw e
 
-pub kind-grow : (u : Term) (f : ℕ → Re) → kind (grow u f) ≡ kindOf u
-kind-grow Nothing f = refl
-kind-grow Empty f = refl
-kind-grow (Range lo hi) f = refl
-kind-grow (Cat a b) f = refl
-kind-grow (Alt a b) f = refl
-kind-grow (Star a) f = refl
+pub rank-grow : (u : Term) (f : ℕ → Re) → rank (grow u f) ≡ kindOf u
+rank-grow Nothing f = refl
+rank-grow Empty f = refl
+rank-grow (Range lo hi) f = refl
+rank-grow (Cat a b) f = refl
+rank-grow (Alt a b) f = refl
+rank-grow (Star a) f = refl
 
 -- a node from its parts, so that its kind tells its form
 abbrev pub rebuilt : ℕ → ℕ → ℕ → Term
@@ -219,8 +219,8 @@ order-stars u v f a a′ d e = rw (d, e)
 
 order-leaves : (u v : Term) (f : ℕ → Re) → kindOf u ≡ kindOf v → kindOf u < 2 → order (grow u f) (grow v f) ≡ Ordering·eq
 unfolding order
-order-leaves Nothing v f e h = rw kind-grow (compare-same 0 (kindOf v) e)
-order-leaves Empty v f e h = rw kind-grow (compare-same 1 (kindOf v) e)
+order-leaves Nothing v f e h = rw rank-grow (compare-same 0 (kindOf v) e)
+order-leaves Empty v f e h = rw rank-grow (compare-same 1 (kindOf v) e)
 order-leaves (Range lo hi) v f e h = absurd (omega arith)
 order-leaves (Cat a b) v f e h = absurd (omega arith)
 order-leaves (Alt a b) v f e h = absurd (omega arith)
@@ -237,11 +237,11 @@ module _ (s : List ℕ) (i j : ℕ) (u v : Term) (x : Found s i u) (y : Found s 
 
   pub order-less : kindOf u < kindOf v → order (term s i) (term s j) ≡ Ordering·lt
   order-less h =
-      by-nodes ∙ kinds-less (grow u (term s)) (grow v (term s)) (rw (kind-grow u, kind-grow v) (compare-less (kindOf u) (kindOf v) h))
+      by-nodes ∙ ranks-less (grow u (term s)) (grow v (term s)) (rw (rank-grow u, rank-grow v) (compare-less (kindOf u) (kindOf v) h))
 
   pub order-more : kindOf v < kindOf u → order (term s i) (term s j) ≡ Ordering·gt
   order-more h =
-      by-nodes ∙ kinds-more (grow u (term s)) (grow v (term s)) (rw (kind-grow u, kind-grow v) (compare-more (kindOf u) (kindOf v) h))
+      by-nodes ∙ ranks-more (grow u (term s)) (grow v (term s)) (rw (rank-grow u, rank-grow v) (compare-more (kindOf u) (kindOf v) h))
 
   pub order-leaf : kindOf u ≡ kindOf v → kindOf u < 2 → order (term s i) (term s j) ≡ Ordering·eq
   order-leaf e h = by-nodes ∙ order-leaves u v (term s) e h

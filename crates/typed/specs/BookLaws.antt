@@ -19,7 +19,7 @@ use Rattle.book.specs.declared.Node.{Node}
 use Rattle.book.specs.declared.Node.the-variants.{Nothing, Empty, Range, Cat, Alt, Star, Either}
 use Rattle.book.specs.Book.{Rule, Book, takes, total, writeNode, writeNodes, writeRule, writeRules, writeBook}
 use Rattle.book.specs.Valid.{Within, Leaves, ValidRule, AllValid, ValidBook}
-use Rattle.book.specs.Expression.{run, top, expression}
+use Rattle.book.specs.Expression.{runNodes, top, expression}
 use Rattle.book.specs.ReadLaws.{book-written}
 use Rattle.typed.specs.Exp.{Exp, Means, postfix}
 use Rattle.typed.specs.Lines.{Line, SpellsAll}
@@ -36,9 +36,9 @@ use Rattle.typed.specs.Bought.EachStands.{no-rule as none-stands, one-ru
 
 -- ---- each rule stands for its line
 
-leaves-re : (e : Exp) → run (postfix e) [] ≡ re e ∷ []
-unfolding run
-leaves-re e = sym (ap (λ (ns : List Node). run ns []) (append-nil (postfix e))) ∙ postfix-run e [] []
+leaves-re : (e : Exp) → runNodes (postfix e) [] ≡ re e ∷ []
+unfolding runNodes
+leaves-re e = sym (ap (λ (ns : List Node). runNodes ns []) (append-nil (postfix e))) ∙ postfix-run e [] []
 
 rule-stands : (k : ℕ) (e : Exp) → Stands k e (ruleOf (rule k e))
 rule-stands k e =

@@ -16,7 +16,7 @@ use Rattle.meaning.specs.Means.{Matches}
 use Rattle.book.specs.Book.{Rule, total, writeBook}
 use Rattle.book.specs.Reads.{readBook}
 use Rattle.book.specs.Valid.{ValidBook}
-use Rattle.book.specs.Expression.{run, expression}
+use Rattle.book.specs.Expression.{runNodes, expression}
 use Rattle.table.specs.Calls.{Output}
 use Rattle.typed.specs.Exp.{Exp, Means, postfix}
 use Rattle.typed.specs.Lines.{Line, SpellsLine, SpellsAll}
@@ -29,7 +29,7 @@ use Rattle.typed.specs.Calls.{ruleOf, bookOf, bookBytes}
 pub record Stands (k : ℕ) (e : Exp) (r : Rule) : Type 0 where
   pub kind : r .kind ≡ k
   pub nodes : r .nodes ≡ postfix e
-  pub one-term : run (r .nodes) [] ≡ expression r ∷ []
+  pub one-term : runNodes (r .nodes) [] ≡ expression r ∷ []
   pub means : Same (Means e) (Matches (expression r))
 
 -- as many rules as lines, each for its line

@@ -14,7 +14,7 @@ use Rattle.meaning.specs.Means.{Matches}
 use Rattle.book.specs.declared.Node.{Node}
 use Rattle.book.specs.declared.Node.the-variants.{Empty, Cat, Alt, Star}
 use Rattle.book.specs.Valid.{Leaves}
-use Rattle.book.specs.Expression.{stacked, run}
+use Rattle.book.specs.Expression.{stacked, runNodes}
 use Rattle.typed.specs.Sets.{Set, Span, spans}
 use Rattle.typed.specs.Sets.Set.{alnum, alpha, blank, cntrl, digit, graph, lower, print, punct, space, upper, xdigit}
 use Rattle.typed.specs.Sets.Span.{span}
@@ -81,36 +81,36 @@ some-spans xdigit = omega arith
 sets-fit : (s : Set) → RangesFit (spans s)
 sets-fit s = some-fit (spans s) (some-spans s) (rising-fit 0 (spans s) (rises s))
 
-joined-run : (more : List Span) (r : Re) (ns : List Node) (stack : List Re) → run (joined more ++ ns) (r ∷ stack) ≡ run ns (alts r more ∷ stack)
-unfolding joined run stacked alts
+joined-run : (more : List Span) (r : Re) (ns : List Node) (stack : List Re) → runNodes (joined more ++ ns) (r ∷ stack) ≡ runNodes ns (alts r more ∷ stack)
+unfolding joined runNodes stacked alts
 joined-run [] r ns stack = refl
 joined-run (span lo hi ∷ more) r ns stack = joined-run more (Re.Alt r (Re.Range lo hi)) ns stack
 
-ranges-run : (ss : List Span) (ns : List Node) (stack : List Re) → RangesFit ss → run (ranges ss ++ ns) stack ≡ run ns (ofSpans ss ∷ stack)
-unfolding ranges run stacked ofSpans
+ranges-run : (ss : List Span) (ns : List Node) (stack : List Re) → RangesFit ss → runNodes (ranges ss ++ ns) stack ≡ runNodes ns (ofSpans ss ∷ stack)
+unfolding ranges runNodes stacked ofSpans
 ranges-run [] ns stack f = absurd f
 ranges-run (span lo hi ∷ more) ns stack f = joined-run more (Re.Range lo hi) ns stack
 
 three : (xs ys zs ns : List Node) → (xs ++ (ys ++ zs)) ++ ns ≡ xs ++ (ys ++ (zs ++ ns))
 three xs ys zs ns = append-assoc xs (ys ++ zs) ns ∙ ap (xs ++_) (append-assoc ys zs ns)
 
-pub postfix-run : (e : Exp) (ns : List Node) (stack : List Re) → run (postfix e ++ ns) stack ≡ run ns (re e ∷ stack)
-unfolding postfix run stacked re
+pub postfix-run : (e : Exp) (ns : List Node) (stack : List Re) → runNodes (postfix e ++ ns) stack ≡ runNodes ns (re e ∷ stack)
+unfolding postfix runNodes stacked re
 postfix-run (byte c) ns stack = refl
 postfix-run dot ns stack = refl
 postfix-run (set s) ns stack = ranges-run (spans s) ns stack (sets-fit s)
 postfix-run empty ns stack = refl
 postfix-run (cat a b) ns stack =
-    ap (λ l. run l stack) (three (postfix a) (postfix b) (Cat ∷ []) ns)
+    ap (λ l. runNodes l stack) (three (postfix a) (postfix b) (Cat ∷ []) ns)
     ∙ postfix-run a (postfix b ++ (Cat ∷ ns)) stack ∙ postfix-run b (Cat ∷ ns) (re a ∷ stack)
 postfix-run (alt a b) ns stack =
-    ap (λ l. run l stack) (three (postfix a) (postfix b) (Alt ∷ []) ns)
+    ap (λ l. runNodes l stack) (three (postfix a) (postfix b) (Alt ∷ []) ns)
     ∙ postfix-run a (postfix b ++ (Alt ∷ ns)) stack ∙ postfix-run b (Alt ∷ ns) (re a ∷ stack)
-postfix-run (star a) ns stack = ap (λ l. run l stack) (append-assoc (postfix a) (Star ∷ []) ns) ∙ postfix-run a (Star ∷ ns) stack
+postfix-run (star a) ns stack = ap (λ l. runNodes l stack) (append-assoc (postfix a) (Star ∷ []) ns) ∙ postfix-run a (Star ∷ ns) stack
 postfix-run (plus a) ns stack =
-    ap (λ l. run l stack) (three (postfix a) (postfix a) (Star ∷ Cat ∷ []) ns)
+    ap (λ l. runNodes l stack) (three (postfix a) (postfix a) (Star ∷ Cat ∷ []) ns)
     ∙ postfix-run a (postfix a ++ (Star ∷ Cat ∷ ns)) stack ∙ postfix-run a (Star ∷ Cat ∷ ns) (re a ∷ stack)
-postfix-run (maybe a) ns stack = ap (λ l. run l stack) (append-assoc (postfix a) (Empty ∷ Alt ∷ []) ns) ∙ postfix-run a (Empty ∷ Alt ∷ ns) stack
+postfix-run (maybe a) ns stack = ap (λ l. runNodes l stack) (append-assoc (postfix a) (Empty ∷ Alt ∷ []) ns) ∙ postfix-run a (Empty ∷ Alt ∷ ns) stack
 
 -- what it means
 either : {A B C D : Type 0} → A ↔ C → B ↔ D → (A ⊎ B) ↔ (C ⊎ D)

@@ -25,19 +25,19 @@ use number::write_number;
 use table::Written;
 
 // A line's kind and the place after its colon, or the place of the wrong byte. A kind out of range is told as one past the limit.
-pub enum KindRead {
+enum KindRead {
     Kind(usize, usize),
     Wrong(usize),
 }
 
 // A line's kind, how many nodes its expression has, and the place after its newline; or the place of the wrong byte.
-pub enum LineRead {
+enum LineRead {
     Line(usize, usize, usize),
     Wrong(usize),
 }
 
 // The rules so far: how many, their nodes and their bytes; and whether a line has brought them out of range, after which none is added.
-pub struct Sum {
+struct Sum {
     pub rules: usize,
     pub nodes: usize,
     pub end: usize,
@@ -45,7 +45,7 @@ pub struct Sum {
 }
 
 // All lines of a text, or the place of the wrong byte.
-pub enum RulesRead {
+enum RulesRead {
     All(Sum),
     Wrong(usize),
 }

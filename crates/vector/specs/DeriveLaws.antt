@@ -14,10 +14,10 @@ use Rattle.number.specs.Limits.{rules, treeNodes, pool}
 use Rattle.meaning.specs.Re.{Re, size}
 use Rattle.meaning.specs.Re.Re.{Nothing, Empty, Range, Cat, Alt, Star}
 use Rattle.meaning.specs.Derive.{nullable, deriv}
-use Rattle.meaning.specs.Limited.{Fit, short, derivFit, derivResults}
+use Rattle.meaning.specs.Limited.{Fit, short, derivFit, derivResults, Over}
 use Rattle.meaning.specs.Limited.Fit.{Long, Fits}
-use Rattle.meaning.specs.LimitedLaws.{Over, deriv-long, deriv-short}
-use Rattle.meaning.specs.LimitedLaws.Over.{here, later}
+use Rattle.meaning.specs.Limited.Over.{here, later}
+use Rattle.meaning.specs.LimitedLaws.{deriv-long, deriv-short}
 use Rattle.meaning.specs.Shape.{InShape}
 use Rattle.meaning.specs.ShapeLaws.{shape-deriv}
 use Rattle.meaning.specs.SizeLaws.{short-size}

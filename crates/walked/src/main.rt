@@ -124,7 +124,7 @@ fn say_table<'a>(count: usize, labels: &'a [u8], targets: &'a [u8]) {
     let mut sheet = [0u8; LONGEST_SHEET];
     say_number(count);
     say(b" states, ");
-    match table::write_sheet(count, labels, targets, &mut sheet) {
+    match writing::write_sheet(count, labels, targets, &mut sheet) {
         Written::Bytes(n) => {
             say_number(n);
             say(b" bytes\n");
@@ -193,7 +193,7 @@ fn compare_case(book_name: &[u8], sheet_name: &[u8]) {
     let mut work = [0u64; WORK_LENGTH];
     let n = read_case(book_name, &mut book);
     let m = read_case(sheet_name, &mut sheet);
-    match table::load(&sheet[0..m], &mut labels, &mut targets) {
+    match loading::load(&sheet[0..m], &mut labels, &mut targets) {
         Counted::States(count) => {
             let answer = comparing::compare_book(
                 &book[0..n],

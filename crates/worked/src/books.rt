@@ -6,7 +6,7 @@ use book::RuleKind;
 
 fn tried(name: &[u8], bytes: &[u8]) {
     say::label(b"book ", name);
-    match book::check_book(bytes) {
+    match checking::check_book(bytes) {
         Checked::Counts(rules, nodes) => {
             say::counted(rules, b" rules ");
             say::counted(nodes, b" nodes\n");
@@ -17,7 +17,7 @@ fn tried(name: &[u8], bytes: &[u8]) {
 
 fn tried_kind(name: &[u8], bytes: &[u8], rule: usize) {
     say::label(b"kind of rule ", name);
-    match book::rule_kind(bytes, rule) {
+    match places::rule_kind(bytes, rule) {
         RuleKind::Kind(kind) => say::counted(kind, b"\n"),
         RuleKind::NoRule => say::text(b"no rule\n"),
         RuleKind::Unknown(r) => say::refused(r),

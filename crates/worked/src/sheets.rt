@@ -16,7 +16,7 @@ fn tried(name: &[u8], sheet: &[u8]) {
     let mut labels = [0u8; STATES];
     let mut targets = [0u8; TABLE_CELLS];
     say::label(b"sheet ", name);
-    match table::load(sheet, &mut labels, &mut targets) {
+    match loading::load(sheet, &mut labels, &mut targets) {
         Counted::States(s) => say::counted(s, b" states\n"),
         Counted::Refused(r) => say::refused(r),
     }
@@ -39,12 +39,12 @@ fn tried_back(name: &[u8], sheet: &[u8]) {
     let mut targets = [0u8; TABLE_CELLS];
     let mut out = [0u8; LONGEST_SHEET];
     say::label(b"sheet and back ", name);
-    let loaded = table::load(sheet, &mut labels, &mut targets);
+    let loaded = loading::load(sheet, &mut labels, &mut targets);
     let Counted::States(s) = loaded else {
         say::text(b"refused\n");
         return;
     };
-    match table::write_sheet(s, &labels, &targets, &mut out) {
+    match writing::write_sheet(s, &labels, &targets, &mut out) {
         Written::Bytes(end) => {
             say::counted(s, b" states ");
             say::counted(end, b" bytes ");

@@ -9,7 +9,7 @@ use table::Written;
 
 fn tried_load(name: &[u8], sheet: &[u8], labels: &mut [u8], targets: &mut [u8]) {
     say::label(b"load into ", name);
-    match table::load(sheet, labels, targets) {
+    match loading::load(sheet, labels, targets) {
         Counted::States(s) => say::counted(s, b" states\n"),
         Counted::Refused(r) => say::refused(r),
     }
@@ -17,7 +17,7 @@ fn tried_load(name: &[u8], sheet: &[u8], labels: &mut [u8], targets: &mut [u8]) 
 
 fn tried_write<'a>(name: &[u8], count: usize, labels: &'a [u8], targets: &'a [u8], out: &mut [u8]) {
     say::label(b"write ", name);
-    match table::write_sheet(count, labels, targets, out) {
+    match writing::write_sheet(count, labels, targets, out) {
         Written::Bytes(end) => say::counted(end, b" bytes\n"),
         Written::Unwritten(r) => say::refused(r),
     }

@@ -1,7 +1,7 @@
 -- `packed::tell_kind` meets its contract: in each arm the value that was matched is told as the definition has it.
 -- Assumes nothing.
 use mathlib.Core.Path.{sym, ap, _∙_}
-use Rattle.book.specs.Calls.{told}
+use Rattle.book.specs.Calls.{kindTold}
 use Rattle.packed.specs.Packed.{packed, toldKind}
 use borrow.Author.Needs.{needs}
 use Rattle.packed.proofs.tell_kind.Statement.{statement}
@@ -26,13 +26,13 @@ refuse-requires : tie.Need-refuse-requires
 refuse-requires c κs = search needs
 
 returns : tie.Need-returns
-returns c = c .give .ensures ∙ ap (λ x. packed toldKind (told x)) (sym (c .before .before .before .found .given .1))
+returns c = c .give .ensures ∙ ap (λ x. packed toldKind (kindTold x)) (sym (c .before .before .before .found .given .1))
 
 returns-2 : tie.Need-returns-2
-returns-2 c = c .give2 .ensures ∙ ap (λ x. packed toldKind (told x)) (sym (c .before .before .enum-told .given .1))
+returns-2 c = c .give2 .ensures ∙ ap (λ x. packed toldKind (kindTold x)) (sym (c .before .before .enum-told .given .1))
 
 returns-3 : tie.Need-returns-3
-returns-3 c = c .refuse .ensures ∙ ap (λ x. packed toldKind (told x)) (sym (c .before .before .before .found2 .given .1))
+returns-3 c = c .refuse .ensures ∙ ap (λ x. packed toldKind (kindTold x)) (sym (c .before .before .before .found2 .given .1))
 
 pub tell-kind-spec : {M : Type 1} → statement M
 tell-kind-spec =

@@ -1,0 +1,114 @@
+// Rule books checked whole, and refused exactly where document 01 says.
+// The call takes any bytes and promises the paper's answer for each; two inner functions say what they ask, so that sums fit.
+ghost use mathlib.Core.Path.{_≡_};
+ghost use Prim.Native.Nat.{_+_, _≤_};
+ghost use lib.ListN.{length};
+ghost use Rattle.number.specs.Limits.{nodes};
+ghost use Rattle.number.specs.Numbers.{taken};
+ghost use Rattle.number.specs.Reading.{mapAnswer};
+ghost use Rattle.book.specs.Book.{total};
+ghost use Rattle.book.specs.Reads.{readNodes, readRules};
+ghost use Rattle.book.specs.Answers.{nodeRefusal};
+ghost use Rattle.book.specs.Calls.{checked, checkOf};
+use book::Checked;
+use book::NodeRead;
+use book::read_node;
+use book::refusal_of;
+use book::takes;
+use number::Refusal;
+use number::Taken;
+use number::limits::KINDS;
+use number::limits::NODES;
+use number::limits::RULES;
+use number::limits::VERSION;
+use number::read_field;
+
+// How many rules the book has and how many nodes in all, or why it is refused.
+pub fn check_book(book: &[u8]) -> Checked
+    ensures { λ r. ⌜ checked r ≡ checkOf (now (book .entry)) ⌝ }
+{
+    let version = read_field(book, 0, VERSION, VERSION);
+    let Taken::Value(v, at_rules) = version else {
+        return Checked::Refused(refusal_of(version));
+    };
+    let rules = read_field(book, at_rules, 1, RULES);
+    let Taken::Value(n, first) = rules else {
+        return Checked::Refused(refusal_of(rules));
+    };
+    let all = check_rules(book, first, v, n, 0);
+    let Taken::Value(nodes, after) = all else {
+        return Checked::Refused(refusal_of(all));
+    };
+    if after < book.len() {
+        return Checked::Refused(Refusal::Tail(after));
+    }
+    Checked::Counts(n, nodes)
+}
+
+// The refusal of a node that was not read; no caller has one that was.
+fn node_refusal(n: NodeRead) -> Refusal
+    ensures { λ r. ⌜ r ≡ nodeRefusal n ⌝ }
+{
+    match n {
+        NodeRead::At(_, _) => Refusal::Input,
+        NodeRead::Refused(r) => r,
+    }
+}
+
+// So many nodes more, where so many terms stand: how many nodes those were, and the place after them.
+// The terms grow by one a node at most, so the limit on nodes keeps their count small.
+pub fn check_nodes(book: &[u8], at: usize, version: usize, left: usize, terms: usize) -> Taken
+    requires { ⌜ terms + left ≤ nodes ⌝ }
+    ensures { λ r. ⌜ taken r ≡ mapAnswer length (readNodes (now (book .entry)) version left terms at) ⌝ }
+{
+    if left == 0 {
+        if terms == 1 {
+            return Taken::Value(0, at);
+        }
+        return Taken::Refused(Refusal::Stack(at));
+    }
+    let node = read_node(book, at, version);
+    let NodeRead::At(n, next) = node else {
+        return Taken::Refused(node_refusal(node));
+    };
+    let needs = takes(n);
+    if terms < needs {
+        return Taken::Refused(Refusal::Stack(at));
+    }
+    let rest = check_nodes(book, next, version, left - 1, terms + 1 - needs);
+    let Taken::Value(more, after) = rest else {
+        return rest;
+    };
+    Taken::Value(more + 1, after)
+}
+
+// So many rules more, where so many nodes have been read: how many nodes they have, and the place after them.
+// The sum is tested as each count is read, before the nodes are, and refused at that count.
+fn check_rules(book: &[u8], at: usize, version: usize, left: usize, used: usize) -> Taken
+    requires { ⌜ used ≤ nodes ⌝ }
+    ensures { λ r. ⌜ taken r ≡ mapAnswer total (readRules (now (book .entry)) version left used at) ⌝ }
+{
+    if left == 0 {
+        return Taken::Value(0, at);
+    }
+    let kind = read_field(book, at, 0, KINDS);
+    let Taken::Value(_, at_count) = kind else {
+        return kind;
+    };
+    let count = read_field(book, at_count, 1, NODES);
+    let Taken::Value(m, first) = count else {
+        return count;
+    };
+    if NODES < used + m {
+        return Taken::Refused(Refusal::Range(at_count));
+    }
+    let nodes = check_nodes(book, first, version, m, 0);
+    let Taken::Value(_, next) = nodes else {
+        return nodes;
+    };
+    let rest = check_rules(book, next, version, left - 1, used + m);
+    let Taken::Value(more, after) = rest else {
+        return rest;
+    };
+    Taken::Value(m + more, after)
+}

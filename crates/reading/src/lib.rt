@@ -1,0 +1,112 @@
+// A sheet read into lent memory, state by state and run by run, each cell written as it is read.
+// Each reader follows its definition of table's Sheet and requires room for what it reads; what a refused one has left is not told.
+ghost use Prim.Native.Nat.{_+_, _-_, _*_, _≤_};
+ghost use lib.ListN.{length};
+ghost use Rattle.number.specs.Limits.{states, bytes, tableCells};
+ghost use Rattle.table.specs.Sheet.{readRuns, readStates, readSheet};
+ghost use Rattle.reading.specs.Promises.{LaysRow, LaysRows, LaysTable};
+use number::Refusal;
+use number::Taken;
+use number::limits::BYTES;
+use number::limits::RULES;
+use number::limits::STATES;
+use number::limits::VERSION;
+use table::fill;
+
+// k runs more of the state whose cells start at `base`: `sum` of them are covered, the run before leads to `last`.
+fn read_runs(
+    sheet: &[u8],
+    at: usize,
+    s: usize,
+    k: usize,
+    sum: usize,
+    last: usize,
+    base: usize,
+    targets: &mut [u8],
+) -> Taken
+    requires { ⌜ (1 ≤ s) × (s ≤ states) × (sum ≤ bytes) × (base + bytes ≤ length (now targets)) ⌝ }
+    ensures { λ r. ⌜ LaysRow (readRuns (now (sheet .entry)) s k sum last at) s
+        (now (targets .entry)) (base + sum) (now (targets .exit)) r ⌝ }
+{
+    if k == 0 {
+        if sum < BYTES {
+            return Taken::Refused(Refusal::Runs(at));
+        }
+        return Taken::Value(s, at);
+    }
+    let length = number::read_field(sheet, at, 1, BYTES);
+    let Taken::Value(len, at_target) = length else {
+        return length;
+    };
+    let covered = sum + len;
+    if BYTES < covered {
+        return Taken::Refused(Refusal::Runs(at));
+    }
+    let leads = number::read_field(sheet, at_target, 0, s - 1);
+    let Taken::Value(target, next) = leads else {
+        return leads;
+    };
+    if target == last {
+        return Taken::Refused(Refusal::Runs(at_target));
+    }
+    fill(targets, base + sum, base + covered, target as u8);
+    read_runs(sheet, next, s, k - 1, covered, target, base, targets)
+}
+
+// k states more of a sheet of s states: the first of them is state s - k.
+fn read_states(
+    sheet: &[u8],
+    at: usize,
+    s: usize,
+    k: usize,
+    labels: &mut [u8],
+    targets: &mut [u8],
+) -> Taken
+    requires { ⌜ (1 ≤ s) × (s ≤ states) × (k ≤ s)
+        × (s ≤ length (now labels)) × (s * bytes ≤ length (now targets)) ⌝ }
+    ensures { λ r. ⌜ LaysRows (readStates (now (sheet .entry)) s k at) s (s - k)
+        (now (labels .entry)) (now (targets .entry)) (now (labels .exit)) (now (targets .exit)) r ⌝ }
+{
+    if k == 0 {
+        return Taken::Value(s, at);
+    }
+    let named = number::read_field(sheet, at, 0, RULES);
+    let Taken::Value(label, at_count) = named else {
+        return named;
+    };
+    let count = number::read_field(sheet, at_count, 1, BYTES);
+    let Taken::Value(m, at_runs) = count else {
+        return count;
+    };
+    let i = s - k;
+    labels[i] = label as u8;
+    let row = read_runs(sheet, at_runs, s, m, 0, s, i * BYTES, targets);
+    let Taken::Value(_, next) = row else {
+        return row;
+    };
+    read_states(sheet, next, s, k - 1, labels, targets)
+}
+
+// A whole sheet.
+pub fn read_sheet(sheet: &[u8], labels: &mut [u8], targets: &mut [u8]) -> Taken
+    requires { ⌜ (states ≤ length (now labels)) × (tableCells ≤ length (now targets)) ⌝ }
+    ensures { λ r. ⌜ LaysTable (readSheet (now (sheet .entry)))
+        (now (labels .entry)) (now (targets .entry)) (now (labels .exit)) (now (targets .exit)) r ⌝ }
+{
+    let version = number::read_field(sheet, 0, VERSION, VERSION);
+    let Taken::Value(_, at_count) = version else {
+        return version;
+    };
+    let count = number::read_field(sheet, at_count, 1, STATES);
+    let Taken::Value(s, at_states) = count else {
+        return count;
+    };
+    let rows = read_states(sheet, at_states, s, s, labels, targets);
+    let Taken::Value(_, next) = rows else {
+        return rows;
+    };
+    if next < sheet.len() {
+        return Taken::Refused(Refusal::Tail(next));
+    }
+    Taken::Value(s, next)
+}
