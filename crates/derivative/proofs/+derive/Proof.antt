@@ -1,4 +1,4 @@
--- `normal::derive` meets its contract: one law of the limited derivative a call and a return.
+-- `derivative::derive` meets its contract: one law of the limited derivative a call and a return.
 -- The measure is the cell's number. Assumes nothing.
 use native.Mathlib.Omega.{arith}
 use Rattle.term.specs.declared.Term.the-variants.{Nothing, Empty, Range, Cat, Alt, Star}
@@ -8,24 +8,25 @@ use Rattle.term.specs.ReadLaws.{found-as}
 use Rattle.meaning.specs.Normal.{cat}
 use Rattle.meaning.specs.Limited.{fit, derivFit}
 use Rattle.term.specs.Cells.{term}
-use Rattle.normal.specs.Asked.{catCells, derivCells}
+use Rattle.normal.specs.Asked.{catCells}
+use Rattle.derivative.specs.Derives.{derivCells}
 use Rattle.normal.specs.AnswerLaws.{Got, got}
-use Rattle.normal.specs.DeriveLaws.{leaf-asks, range-asks, nothing-up, empty-up, range-up, cat-left, cat-left-long, cat-middle, cat-middle-long, null-asks, null-told, cat-alone, cat-right, cat-right-long, cat-last, cat-both, alt-left, alt-left-long, alt-right, alt-right-long, alt-last, alt-up, star-left, star-left-long, star-middle, star-up}
+use Rattle.derivative.specs.DeriveLaws.{leaf-asks, range-asks, nothing-up, empty-up, range-up, cat-left, cat-left-long, cat-middle, cat-middle-long, null-asks, null-told, cat-alone, cat-right, cat-right-long, cat-last, cat-both, alt-left, alt-left-long, alt-right, alt-right-long, alt-last, alt-up, star-left, star-left-long, star-middle, star-up}
 use borrow.Author.Needs.{needs}
 use Prim.Native.Nat.{ℕ, _<_}
 use borrow.Fn.Kinds.{In}
 use borrow.Fn.PlainCycle.{Measures, is, falls, and}
-use Rattle.normal.proofs.derive.Reads as derive
-use Rattle.normal.proofs.derive.Kinds as derive-kinds
-use Rattle.normal.proofs.+derive.Lts-derive as derive-lts
-use Rattle.normal.proofs.alt_short.Reads as alt-short-reads
+use Rattle.derivative.proofs.derive.Reads as derive
+use Rattle.derivative.proofs.derive.Kinds as derive-kinds
+use Rattle.derivative.proofs.+derive.Lts-derive as derive-lts
+use Rattle.choice.proofs.alt_short.Reads as alt-short-reads
 use Rattle.normal.proofs.cat_fit.Reads as cat-fit-reads
 use Rattle.normal.proofs.leaf.Reads as leaf-reads
-use Rattle.normal.proofs.read_range.Reads as read-range-reads
+use Rattle.derivative.proofs.read_range.Reads as read-range-reads
 use Rattle.term.proofs.node_at.Reads as node-at-reads
 use Rattle.term.proofs.nullable.Reads as nullable-reads
-use Rattle.normal.proofs.+derive.{statement}
-use Rattle.normal.proofs.+derive.Tie.{close}
+use Rattle.derivative.proofs.+derive.{statement}
+use Rattle.derivative.proofs.+derive.Tie.{close}
 
 abbrev μ-derive : Measures 1 derive-kinds.ps ℕ
 μ-derive κs a = a .1 .1 .0

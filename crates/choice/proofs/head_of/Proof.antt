@@ -1,13 +1,13 @@
--- `normal::head_of` meets its contract: of an Alt its left side, of anything else itself.
+-- `choice::head_of` meets its contract: of an Alt its left side, of anything else itself.
 -- Assumes nothing.
 use native.Mathlib.Omega.{arith}
 use mathlib.Core.Path.{refl, sym, _∙_}
 use Rattle.term.specs.CellLaws.{found}
-use Rattle.normal.specs.NodeLaws.{found-alt}
-use Rattle.normal.specs.UniteLaws.{head-alt, head-alone}
+use Rattle.choice.specs.NodeLaws.{found-alt}
+use Rattle.choice.specs.UniteLaws.{head-alt, head-alone}
 use borrow.Author.Needs.{needs}
-use Rattle.normal.proofs.head_of.Statement.{statement}
-use Rattle.normal.proofs.head_of.Tie as tie
+use Rattle.choice.proofs.head_of.Statement.{statement}
+use Rattle.choice.proofs.head_of.Tie as tie
 
 node-at-requires : tie.Need-node-at-requires
 node-at-requires c κs = search needs

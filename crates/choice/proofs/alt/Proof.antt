@@ -1,11 +1,11 @@
--- `normal::alt` meets its contract: Nothing on a side gives the other side, and all else is the merge.
+-- `choice::alt` meets its contract: Nothing on a side gives the other side, and all else is the merge.
 -- Assumes nothing.
 use Rattle.term.specs.CellLaws.{found}
 use Rattle.normal.specs.NodeLaws.{told-nothing}
-use Rattle.normal.specs.UniteLaws.{alt-none-left, alt-none-right, alt-both}
+use Rattle.choice.specs.UniteLaws.{alt-none-left, alt-none-right, alt-both}
 use borrow.Author.Needs.{needs}
-use Rattle.normal.proofs.alt.Statement.{statement}
-use Rattle.normal.proofs.alt.Tie as tie
+use Rattle.choice.proofs.alt.Statement.{statement}
+use Rattle.choice.proofs.alt.Tie as tie
 
 node-at-requires : tie.Need-node-at-requires
 node-at-requires c κs = search needs

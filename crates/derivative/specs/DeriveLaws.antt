@@ -26,14 +26,15 @@ use Rattle.term.specs.Area.{Grown}
 use Rattle.term.specs.Nodes.{Found}
 use Rattle.term.specs.CellLaws.{sound-less, grown-refl, grown-trans, grown-term}
 use Rattle.term.specs.ReadLaws.{cat-size, alt-size, star-size}
 use Rattle.normal.specs.declared.Made.{Made}
 use Rattle.normal.specs.declared.Made.the-variants.{Term as Made·term, Long as Made·long}
-use Rattle.normal.specs.Asked.{members, catCells, altCells, mostMembers, derivRoom, derivCells, Links, Choices, ShortChoices, Derives}
-use Rattle.normal.specs.Builds.{rangeLeft}
 use Rattle.normal.specs.Made.{MadeBy}
+use Rattle.normal.specs.Asked.{catCells, Links}
 use Rattle.normal.specs.ChainLaws.{cat-few, cat-idle-left}
-use Rattle.normal.specs.UniteLaws.{alt-few, alt-idle-left}
 use Rattle.normal.specs.AnswerLaws.{Got, long-is, made-term, made-after, long-after}
+use Rattle.choice.specs.Asked.{members, mostMembers, altCells, ShortChoices}
+use Rattle.choice.specs.UniteLaws.{alt-few, alt-idle-left}
+use Rattle.derivative.specs.Derives.{derivRoom, derivCells, Derives, rangeLeft}
 
 -- ---- the limited derivative is short
 

@@ -1,11 +1,11 @@
--- `normal::alt_fit` meets its contract: what alt made is counted.
+-- `choice::alt_fit` meets its contract: what alt made is counted.
 -- Assumes nothing.
 use native.Mathlib.Omega.{arith}
 use Rattle.term.specs.CellLaws.{sound-less}
 use Rattle.normal.specs.AnswerLaws.{short-made, long-made}
 use borrow.Author.Needs.{needs}
-use Rattle.normal.proofs.alt_fit.Statement.{statement}
-use Rattle.normal.proofs.alt_fit.Tie as tie
+use Rattle.choice.proofs.alt_fit.Statement.{statement}
+use Rattle.choice.proofs.alt_fit.Tie as tie
 
 alt-requires : tie.Need-alt-requires
 alt-requires c κs = search needs

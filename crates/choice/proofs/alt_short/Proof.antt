@@ -1,12 +1,12 @@
--- `normal::alt_short` meets its contract: with Nothing on a side the other side is the choice, and fits as it is.
+-- `choice::alt_short` meets its contract: with Nothing on a side the other side is the choice, and fits as it is.
 -- Assumes nothing.
 use Rattle.term.specs.CellLaws.{found}
 use Rattle.normal.specs.NodeLaws.{told-nothing}
-use Rattle.normal.specs.UniteLaws.{alt-none-left, alt-none-right}
+use Rattle.choice.specs.UniteLaws.{alt-none-left, alt-none-right}
 use Rattle.normal.specs.AnswerLaws.{fits-made}
 use borrow.Author.Needs.{needs}
-use Rattle.normal.proofs.alt_short.Statement.{statement}
-use Rattle.normal.proofs.alt_short.Tie as tie
+use Rattle.choice.proofs.alt_short.Statement.{statement}
+use Rattle.choice.proofs.alt_short.Tie as tie
 
 node-at-requires : tie.Need-node-at-requires
 node-at-requires c κs = search needs

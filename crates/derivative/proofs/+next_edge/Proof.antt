@@ -1,22 +1,22 @@
--- `normal::next_edge` meets its contract: one law a return.
+-- `derivative::next_edge` meets its contract: one law a return.
 -- The measure is the cell's number. Assumes nothing.
 use native.Mathlib.Omega.{arith}
 use Rattle.term.specs.declared.Term.the-variants.{Nothing, Empty, Range, Cat, Alt, Star}
 use Rattle.term.specs.Nodes.{Found}
 use Rattle.term.specs.CellLaws.{found, sound-less}
 use Rattle.term.specs.ReadLaws.{found-as}
-use Rattle.normal.specs.EdgeLaws.{nothing-edge, empty-edge, before-range, in-range, after-range, cat-edge, alt-edge, star-edge}
+use Rattle.derivative.specs.EdgeLaws.{nothing-edge, empty-edge, before-range, in-range, after-range, cat-edge, alt-edge, star-edge}
 use borrow.Author.Needs.{needs}
 use Prim.Native.Nat.{ℕ, _<_}
 use borrow.Fn.Kinds.{In}
 use borrow.Fn.PlainCycle.{Measures, is, falls, and}
-use Rattle.normal.proofs.next_edge.Reads as next-edge
-use Rattle.normal.proofs.next_edge.Kinds as next-edge-kinds
-use Rattle.normal.proofs.+next_edge.Lts-next_edge as next-edge-lts
-use Rattle.normal.proofs.smaller.Reads as smaller-reads
+use Rattle.derivative.proofs.next_edge.Reads as next-edge
+use Rattle.derivative.proofs.next_edge.Kinds as next-edge-kinds
+use Rattle.derivative.proofs.+next_edge.Lts-next_edge as next-edge-lts
+use Rattle.derivative.proofs.smaller.Reads as smaller-reads
 use Rattle.term.proofs.node_at.Reads as node-at-reads
-use Rattle.normal.proofs.+next_edge.{statement}
-use Rattle.normal.proofs.+next_edge.Tie.{close}
+use Rattle.derivative.proofs.+next_edge.{statement}
+use Rattle.derivative.proofs.+next_edge.Tie.{close}
 
 abbrev μ-next-edge : Measures 1 next-edge-kinds.ps ℕ
 μ-next-edge κs a = a .1 .0

@@ -1,8 +1,8 @@
--- `normal::read_range` meets its contract: the byte lies in the range exactly if neither test tells otherwise.
+-- `derivative::read_range` meets its contract: the byte lies in the range exactly if neither test tells otherwise.
 -- Assumes nothing.
 use borrow.Author.Tests.{le-leb, lt-leb}
-use Rattle.normal.proofs.read_range.Statement.{statement}
-use Rattle.normal.proofs.read_range.Tie as tie
+use Rattle.derivative.proofs.read_range.Statement.{statement}
+use Rattle.derivative.proofs.read_range.Tie as tie
 
 returns : tie.Need-returns
 returns c = simp (lt-leb _ _ (c .if1 .taken))

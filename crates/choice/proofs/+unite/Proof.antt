@@ -1,4 +1,4 @@
--- `normal::unite` meets its contract: one law of the merge a return, by the order of the first members.
+-- `choice::unite` meets its contract: one law of the merge a return, by the order of the first members.
 -- The measure is the sum of both cells' numbers. Assumes nothing.
 use native.Mathlib.Omega.{arith}
 use mathlib.Core.Path.{refl, sym, _∙_}
@@ -6,23 +6,23 @@ use Rattle.term.specs.declared.Term.the-variants.{Alt}
 use Rattle.term.specs.declared.Order.the-variants.{Less, Equal, Greater}
 use Rattle.term.specs.Nodes.{firstOf, Found}
 use Rattle.term.specs.CellLaws.{found, sound-less}
-use Rattle.normal.specs.NodeLaws.{found-alt, told-order}
-use Rattle.normal.specs.UniteLaws.{one-asks, turned-asks, heads-sound, less-one, less-down, less-asks, less-up, same-one, same-left, same-down, same-asks, same-up, greater-one, greater-down, greater-asks, greater-up}
+use Rattle.choice.specs.NodeLaws.{found-alt, told-order}
+use Rattle.choice.specs.UniteLaws.{one-asks, turned-asks, heads-sound, less-one, less-down, less-asks, less-up, same-one, same-left, same-down, same-asks, same-up, greater-one, greater-down, greater-asks, greater-up}
 use borrow.Author.Needs.{needs}
 use Prim.Native.Nat.{ℕ, _+_, _<_}
 use borrow.Fn.Kinds.{In}
 use borrow.Fn.PlainCycle.{Measures, is, falls, and}
-use Rattle.normal.proofs.unite.Reads as unite
-use Rattle.normal.proofs.unite.Kinds as unite-kinds
-use Rattle.normal.proofs.+unite.Lts-unite as unite-lts
-use Rattle.normal.proofs.head_of.Reads as head-of-reads
+use Rattle.choice.proofs.unite.Reads as unite
+use Rattle.choice.proofs.unite.Kinds as unite-kinds
+use Rattle.choice.proofs.+unite.Lts-unite as unite-lts
+use Rattle.choice.proofs.head_of.Reads as head-of-reads
 use Rattle.normal.proofs.store.Reads as store-reads
 use Rattle.term.proofs.compare_terms.Reads as compare-terms-reads
 use Rattle.term.proofs.kind_of.Reads as kind-of-reads
 use Rattle.term.proofs.node_at.Reads as node-at-reads
 use Rattle.term.proofs.second_of.Reads as second-of-reads
-use Rattle.normal.proofs.+unite.{statement}
-use Rattle.normal.proofs.+unite.Tie.{close}
+use Rattle.choice.proofs.+unite.{statement}
+use Rattle.choice.proofs.+unite.Tie.{close}
 
 abbrev μ-unite : Measures 1 unite-kinds.ps ℕ
 μ-unite κs a = a .1 .1 .0 + a .1 .1 .1 .0

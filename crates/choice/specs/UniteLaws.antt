@@ -18,9 +18,9 @@ use Rattle.term.specs.Cells.{term, Sound}
 use Rattle.term.specs.Area.{Makes}
 use Rattle.term.specs.Nodes.{kindOf, Found}
 use Rattle.term.specs.CellLaws.{sound-less, grown-term, makes-old, makes-more, makes-as, makes-after}
-use Rattle.normal.specs.Asked.{members, altCells, Choices, Unites}
-use Rattle.normal.specs.Builds.{Heads}
-use Rattle.normal.specs.NodeLaws.{found-no-alt, members-some}
+use Rattle.choice.specs.Asked.{members, altCells, Choices, Unites}
+use Rattle.choice.specs.Builds.{Heads}
+use Rattle.choice.specs.NodeLaws.{found-no-alt, members-some}
 
 -- the first member
 pub head-alt : {s : List ℕ} {i x y : ℕ} → Found s i (Alt x y) → Heads s i x
