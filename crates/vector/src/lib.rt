@@ -137,7 +137,7 @@ pub fn derive_vector(
                 vector: v,
             };
         };
-        let placed = pool::put_term(index, cells, next, root);
+        let placed = pooling::put_term(index, cells, next, root);
         to[i] = placed.root;
         next = placed.top;
         i += 1;

@@ -1,4 +1,4 @@
--- `pool::put_copy` meets its contract: one law of putting a return, over what the node and the puts of its children told.
+-- `pooling::put_copy` meets its contract: one law of putting a return, over what the node and the puts of its children told.
 -- The measure is the number of the cell that is copied. Assumes nothing.
 use native.Mathlib.Omega.{arith}
 use mathlib.Core.Path.{ap}
@@ -8,20 +8,20 @@ use Rattle.term.specs.Cells.{term}
 use Rattle.term.specs.Nodes.{kindOf, Found}
 use Rattle.term.specs.CellLaws.{found, sound-less}
 use Rattle.term.specs.ReadLaws.{found-as, leaf-size, cat-size, alt-size, star-size}
 use Rattle.pool.specs.IndexLaws.{open-less, open-after}
-use Rattle.pool.specs.CopyLaws.{leaf-fits}
-use Rattle.pool.specs.PutLaws.{put-leaf, put-cat, put-alt, put-star}
+use Rattle.pooling.specs.CopyLaws.{leaf-fits}
+use Rattle.pooling.specs.PutLaws.{put-leaf, put-cat, put-alt, put-star}
 use borrow.Author.Needs.{needs}
 use Prim.Native.Nat.{ℕ, _+_, _<_}
 use borrow.Fn.Kinds.{In}
 use borrow.Fn.PlainCycle.{Measures, is, falls, and}
-use Rattle.pool.proofs.put_copy.Reads as put-copy
-use Rattle.pool.proofs.put_copy.Kinds as put-copy-kinds
-use Rattle.pool.proofs.+put_copy.Lts-put_copy as put-copy-lts
+use Rattle.pooling.proofs.put_copy.Reads as put-copy
+use Rattle.pooling.proofs.put_copy.Kinds as put-copy-kinds
+use Rattle.pooling.proofs.+put_copy.Lts-put_copy as put-copy-lts
 use Rattle.pool.proofs.put_node.Reads as put-node-reads
 use Rattle.term.proofs.node_at.Reads as node-at-reads
-use Rattle.pool.proofs.+put_copy.{statement}
-use Rattle.pool.proofs.+put_copy.Tie.{close}
+use Rattle.pooling.proofs.+put_copy.{statement}
+use Rattle.pooling.proofs.+put_copy.Tie.{close}
 
 abbrev μ-put-copy : Measures 3 put-copy-kinds.ps ℕ
 μ-put-copy κs a = a .1 .0

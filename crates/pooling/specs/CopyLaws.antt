@@ -12,7 +12,7 @@ use Rattle.term.specs.Area.{Grown}
 use Rattle.term.specs.Nodes.{kindOf, Found, Pushed}
 use Rattle.term.specs.CellLaws.{grown-refl, grown-trans, grown-term}
 use Rattle.term.specs.ReadLaws.{leaf-size, cat-size, alt-size, star-size}
-use Rattle.pool.specs.Steps.{Copied}
+use Rattle.pooling.specs.Copied.{Copied}
 
 -- a node without children has its term whatever the cells
 pub leaf-grow : (u : Term) (f g : ℕ → Re) → kindOf u < 3 → grow u f ≡ grow u g

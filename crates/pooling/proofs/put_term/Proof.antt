@@ -1,12 +1,12 @@
--- `pool::put_term` meets its contract: a term that was found is held already; else what was copied out is the term, and putting the copy puts it.
+-- `pooling::put_term` meets its contract: a term that was found is held already; else what was copied out is the term, and putting the copy puts it.
 -- Assumes nothing.
 use native.Mathlib.Omega.{arith}
 use Rattle.term.specs.CellLaws.{sound-none}
 use Rattle.pool.specs.FindLaws.{put-seen}
-use Rattle.pool.specs.PutLaws.{copied-asks, put-copied}
+use Rattle.pooling.specs.PutLaws.{copied-asks, put-copied}
 use borrow.Author.Needs.{needs}
-use Rattle.pool.proofs.put_term.Statement.{statement}
-use Rattle.pool.proofs.put_term.Tie as tie
+use Rattle.pooling.proofs.put_term.Statement.{statement}
+use Rattle.pooling.proofs.put_term.Tie as tie
 
 find-term-requires : tie.Need-find-term-requires
 find-term-requires c κs = search needs

@@ -13,12 +13,12 @@ use Rattle.term.specs.Nodes.{kindOf, Found}
 use Rattle.term.specs.CellLaws.{frame, sound-less}
 use Rattle.term.specs.ReadLaws.{leaf-size, cat-size, alt-size, star-size}
 use Rattle.walk.specs.Parts.{withTerm, withParts}
 use Rattle.pool.specs.Pooled.{termsOf}
 use Rattle.pool.specs.Index.{After, Put, Open}
-use Rattle.pool.specs.Steps.{Copied}
+use Rattle.pooling.specs.Copied.{Copied}
 use Rattle.pool.specs.PoolLaws.{pool-as}
 use Rattle.pool.specs.IndexLaws.{open-less}
-use Rattle.pool.specs.CopyLaws.{leaf-grow}
+use Rattle.pooling.specs.CopyLaws.{leaf-grow}
 
 -- ---- one after another
 

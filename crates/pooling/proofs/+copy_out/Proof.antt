@@ -1,4 +1,4 @@
--- `pool::copy_out` meets its contract: one law of copying a return, over what the node and the copies of its children told.
+-- `pooling::copy_out` meets its contract: one law of copying a return, over what the node and the copies of its children told.
 -- The measure is the cell's number. Assumes nothing.
 use native.Mathlib.Omega.{arith}
 use mathlib.Core.Path.{ap}
@@ -6,18 +6,18 @@ use Rattle.term.specs.declared.Term.the-variants.{Cat, Alt, Star}
 use Rattle.term.specs.Nodes.{kindOf, Found}
 use Rattle.term.specs.CellLaws.{found, sound-less}
 use Rattle.term.specs.ReadLaws.{found-as, leaf-size, cat-size, alt-size, star-size}
-use Rattle.pool.specs.CopyLaws.{leaf-fits, copied-leaf, copied-cat, copied-alt, copied-star}
+use Rattle.pooling.specs.CopyLaws.{leaf-fits, copied-leaf, copied-cat, copied-alt, copied-star}
 use borrow.Author.Needs.{needs}
 use Prim.Native.Nat.{ℕ, _<_}
 use borrow.Fn.Kinds.{In}
 use borrow.Fn.PlainCycle.{Measures, is, falls, and}
-use Rattle.pool.proofs.copy_out.Reads as copy-out
-use Rattle.pool.proofs.copy_out.Kinds as copy-out-kinds
-use Rattle.pool.proofs.+copy_out.Lts-copy_out as copy-out-lts
+use Rattle.pooling.proofs.copy_out.Reads as copy-out
+use Rattle.pooling.proofs.copy_out.Kinds as copy-out-kinds
+use Rattle.pooling.proofs.+copy_out.Lts-copy_out as copy-out-lts
 use Rattle.term.proofs.node_at.Reads as node-at-reads
 use Rattle.term.proofs.push.Reads as push-reads
-use Rattle.pool.proofs.+copy_out.{statement}
-use Rattle.pool.proofs.+copy_out.Tie.{close}
+use Rattle.pooling.proofs.+copy_out.{statement}
+use Rattle.pooling.proofs.+copy_out.Tie.{close}
 
 abbrev μ-copy-out : Measures 2 copy-out-kinds.ps ℕ
 μ-copy-out κs a = a .1 .0
