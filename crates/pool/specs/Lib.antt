@@ -8,5 +8,3 @@ pub mod IndexLaws
 pub mod NodeLaws
 pub mod ClosedLaws
 pub mod FindLaws
-pub mod CopyLaws
-pub mod PutLaws

@@ -1,15 +1,13 @@
--- What the steps of putting a term into the pool tell: nodes compared, a cell looked for, a tree copied to another area.
+-- What the steps of looking a term up in the pool tell: nodes compared, a cell looked for by its node or by its term.
 -- These records are their contracts; Pooled has those of the pool itself.
-use Prim.Native.Nat.{ℕ, _+_, _-_, _<_, _≤_}
+use Prim.Native.Nat.{ℕ, _<_, _≤_}
 use mathlib.Core.Path.{_≡_}
 use mathlib.Core.Bool.{Bool, _&&_}
 use mathlib.Core.List.{List}
 use lib.Dec.{eqb}
 use lib.ListN.{getD}
-use Rattle.meaning.specs.Re.{Re, size}
 use Rattle.term.specs.declared.Term.{Term}
 use Rattle.term.specs.Cells.{nodeOf, term}
-use Rattle.term.specs.Area.{Makes}
 use Rattle.term.specs.Nodes.{kindOf, firstOf, secondOf}
 
 -- two nodes of one kind with the same fields
@@ -25,8 +23,3 @@ pub record Looked (s : List ℕ) (top : ℕ) (u : Term) (r : ℕ) : Type 0 where
 -- r is a cell below top that holds the term of cell i, or it was not found
 pub record Seen (s : List ℕ) (top i r : ℕ) : Type 0 where
   pub there : r < top → term s r ≡ term s i
-
--- the tree of v was stored from place `at` on, one cell a tree node, its root last
-pub record Copied (out : List ℕ) (at : ℕ) (out′ : List ℕ) (end : ℕ) (v : Re) : Type 0 where
-  pub makes : Makes out at out′ (end - 1) end v (size v)
-  pub after : end ≡ at + size v

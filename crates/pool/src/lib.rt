@@ -1,17 +1,14 @@
-// The pool of terms in the work area: a term is put into it with all its parts, each looked up first, so that equal terms have equal numbers.
-// Scratch above the pool is given up once a result has been copied out of it.
+// The pool of terms in the work area, and its index: a node is looked up before it is put, so that equal terms have equal numbers.
+// A term in scratch above the pool is looked up the same way, by its nodes.
 ghost use mathlib.Core.Path.{_≡_};
 ghost use Prim.Native.Nat.{_+_, _≤_, _<_};
 ghost use lib.ListN.{length};
-ghost use Rattle.number.specs.Limits.{treeNodes};
-ghost use Rattle.meaning.specs.Re.{size};
 ghost use Rattle.term.specs.Cells.{term, grow, Below, Sound};
-ghost use Rattle.term.specs.Area.{Room};
 ghost use Rattle.term.specs.Nodes.{Fields};
 ghost use Rattle.walk.specs.Parts.{withTerm};
 ghost use Rattle.pool.specs.Pooled.{termsOf};
-ghost use Rattle.pool.specs.Index.{poolCells, indexCells, hashOf, chained, Indexed, Open, After, Put};
-ghost use Rattle.pool.specs.Steps.{sameNode, Looked, Seen, Copied};
+ghost use Rattle.pool.specs.Index.{poolCells, indexCells, hashOf, chained, Indexed, Open, After};
+ghost use Rattle.pool.specs.Steps.{sameNode, Looked, Seen};
 use number::limits::POOL;
 use number::limits::RULES;
 use number::limits::TREE_NODES;
@@ -89,7 +86,7 @@ fn chain(index: &mut [usize], top: usize, node: Term)
 }
 
 // Puts a node whose children stand in the pool into the pool: in the cell that holds it already, or in a new one.
-fn put_node(index: &mut [usize], cells: &mut [u64], top: usize, node: Term) -> Placed
+pub fn put_node(index: &mut [usize], cells: &mut [u64], top: usize, node: Term) -> Placed
     requires { ⌜ Open (now index) (now cells) top 1 ⌝ }
     requires { ⌜ Below node top ⌝ }
     ensures { λ r. ⌜ After (now (cells .entry)) top (withTerm (termsOf (now (cells .entry)) top) (grow node (term (now (cells .entry)))))
@@ -109,7 +106,7 @@ fn put_node(index: &mut [usize], cells: &mut [u64], top: usize, node: Term) -> P
 
 // The cell of the pool that holds the term in cell `i`, which may stand in scratch above the pool, or `top` where it is not found.
 // Only nodes in scratch are gone over, and nothing is copied.
-fn find_term(index: &[usize], cells: &[u64], top: usize, i: usize) -> usize
+pub fn find_term(index: &[usize], cells: &[u64], top: usize, i: usize) -> usize
     requires { ⌜ Indexed (now index) (now cells) top ⌝ }
     requires { ⌜ Sound (now cells) top ⌝ }
     requires { ⌜ Sound (now cells) (i + 1) ⌝ }
@@ -138,83 +135,4 @@ fn find_term(index: &[usize], cells: &[u64], top: usize, i: usize) -> usize
         return find_cell(index, cells, top, Term::Cat(left, right));
     }
     find_cell(index, cells, top, Term::Alt(left, right))
-}
-
-// Copies the tree of a term to another area, children first; the answer is the place after it.
-fn copy_out(cells: &[u64], i: usize, out: &mut [u64], at: usize) -> usize
-    requires { ⌜ Sound (now cells) (i + 1) ⌝ }
-    requires { ⌜ Sound (now out) at ⌝ }
-    requires { ⌜ Room (now out) at (size (term (now cells) i)) ⌝ }
-    ensures { λ r. ⌜ Copied (now (out .entry)) at (now (out .exit)) r (term (now (cells .entry)) i) ⌝ }
-{
-    let node = node_at(cells, i);
-    match node {
-        Term::Nothing => push(out, at, node),
-        Term::Empty => push(out, at, node),
-        Term::Range(_, _) => push(out, at, node),
-        Term::Cat(a, b) => {
-            let middle = copy_out(cells, a, out, at);
-            let end = copy_out(cells, b, out, middle);
-            push(out, end, Term::Cat(middle - 1, end - 1))
-        }
-        Term::Alt(a, b) => {
-            let middle = copy_out(cells, a, out, at);
-            let end = copy_out(cells, b, out, middle);
-            push(out, end, Term::Alt(middle - 1, end - 1))
-        }
-        Term::Star(a) => {
-            let end = copy_out(cells, a, out, at);
-            push(out, end, Term::Star(end - 1))
-        }
-    }
-}
-
-// Puts a term that stands in another area into the pool with all its parts, children first.
-fn put_copy(out: &[u64], k: usize, index: &mut [usize], cells: &mut [u64], top: usize) -> Placed
-    requires { ⌜ Sound (now out) (k + 1) ⌝ }
-    requires { ⌜ Open (now index) (now cells) top (size (term (now out) k)) ⌝ }
-    ensures { λ r. ⌜ Put (now (cells .entry)) top (termsOf (now (cells .entry)) top) (now (index .exit)) (now (cells .exit)) (r .root) (r .top)
-        (term (now (out .entry)) k) (top + size (term (now (out .entry)) k)) ⌝ }
-{
-    let node = node_at(out, k);
-    match node {
-        Term::Nothing => put_node(index, cells, top, node),
-        Term::Empty => put_node(index, cells, top, node),
-        Term::Range(_, _) => put_node(index, cells, top, node),
-        Term::Cat(a, b) => {
-            let left = put_copy(out, a, index, cells, top);
-            let right = put_copy(out, b, index, cells, left.top);
-            put_node(index, cells, right.top, Term::Cat(left.root, right.root))
-        }
-        Term::Alt(a, b) => {
-            let left = put_copy(out, a, index, cells, top);
-            let right = put_copy(out, b, index, cells, left.top);
-            put_node(index, cells, right.top, Term::Alt(left.root, right.root))
-        }
-        Term::Star(a) => {
-            let inner = put_copy(out, a, index, cells, top);
-            put_node(index, cells, inner.top, Term::Star(inner.root))
-        }
-    }
-}
-
-// Puts the term in cell `i`, in the pool or in scratch above it, into the pool at `top`; the scratch is given up.
-// Most derivatives are held already, and then nothing is put.
-pub fn put_term(index: &mut [usize], cells: &mut [u64], top: usize, i: usize) -> Placed
-    requires { ⌜ Open (now index) (now cells) top treeNodes ⌝ }
-    requires { ⌜ Sound (now cells) (i + 1) ⌝ }
-    requires { ⌜ size (term (now cells) i) ≤ treeNodes ⌝ }
-    ensures { λ r. ⌜ Put (now (cells .entry)) top (termsOf (now (cells .entry)) top) (now (index .exit)) (now (cells .exit)) (r .root) (r .top)
-        (term (now (cells .entry)) i) (top + size (term (now (cells .entry)) i)) ⌝ }
-{
-    let held = find_term(index, cells, top, i);
-    if held < top {
-        return Placed {
-            root: held,
-            top: top,
-        };
-    }
-    let mut out = [0u64; TREE_NODES];
-    let end = copy_out(cells, i, &mut out, 0);
-    put_copy(&out, end - 1, index, cells, top)
 }

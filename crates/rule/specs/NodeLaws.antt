@@ -22,11 +22,12 @@ use Rattle.term.specs.Area.{Room}
 use Rattle.term.specs.Nodes.{Pushed}
 use Rattle.term.specs.CellLaws.{grown-term, grown-trans}
 use Rattle.normal.specs.declared.Made.{Made}
-use Rattle.normal.specs.Asked.{members, mostMembers, altCells, Links, Choices}
-use Rattle.normal.specs.Builds.{AltFits}
+use Rattle.normal.specs.Asked.{Links}
+use Rattle.choice.specs.Asked.{members, mostMembers, altCells, Choices}
+use Rattle.choice.specs.Builds.{AltFits}
 use Rattle.normal.specs.AnswerLaws.{made-after}
 use Rattle.normal.specs.ChainLaws.{cat-few}
-use Rattle.normal.specs.UniteLaws.{alt-few}
+use Rattle.choice.specs.UniteLaws.{alt-few}
 use Rattle.rule.specs.RunFit.{large, small, made}
 use Rattle.rule.specs.Work.{Item, eitherCells, nodeCells, nodeRoom, Operands, NodeMade, EitherMade}
 

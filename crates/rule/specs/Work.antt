@@ -1,5 +1,5 @@
 -- What the code that works off a rule's nodes asks and answers: the rule, the stack of cells, and how many cells the rest may use.
--- The contracts of this crate are stated with these; a leaf's is that of normal.
+-- The contracts of this crate are stated with these.
 use Prim.Native.Nat.{ℕ, zero, suc, _+_, _-_, _*_, _/_, _<_, _≤_}
 use mathlib.Core.Path.{_≡_}
 use mathlib.Core.Bool.{true}
@@ -22,7 +22,8 @@ use Rattle.book.specs.Places.{ruleOf}
 use Rattle.term.specs.Cells.{term, Sound}
 use Rattle.term.specs.Area.{Room}
 use Rattle.normal.specs.declared.Made.{Made}
-use Rattle.normal.specs.Asked.{mostMembers, catCells, altCells}
+use Rattle.normal.specs.Asked.{catCells}
+use Rattle.choice.specs.Asked.{mostMembers, altCells}
 use Rattle.normal.specs.Made.{MadeBy}
 use Rattle.rule.specs.RunFit.{large, small, made, runFit}
 

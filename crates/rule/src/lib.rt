@@ -3,9 +3,8 @@
 ghost use Prim.Native.Nat.{_<_, _≤_};
 ghost use lib.ListN.{length};
 ghost use Rattle.number.specs.Limits.{firstLetter, lastLetter};
-ghost use Rattle.term.specs.Cells.{Below, Sound};
+ghost use Rattle.term.specs.Cells.{Sound};
 ghost use Rattle.term.specs.Area.{Room};
-ghost use Rattle.normal.specs.Builds.{Leaf};
 ghost use Rattle.rule.specs.Work.{ruleScratch, Has, RuleMade, eitherCells, Operands, NodeMade, StarMade, EitherMade};
 ghost use Rattle.rule.specs.Work.{Working, Worked};
 use book::Node;
@@ -15,17 +14,6 @@ use number::limits::CAPITAL;
 use number::limits::NODES;
 use number::limits::VERSION;
 use term::Term;
-
-// A leaf as an answer.
-fn leaf_term(cells: &mut [u64], top: usize, node: Term) -> Made
-    requires { ⌜ Sound (now cells) top ⌝ }
-    requires { ⌜ top < length (now cells) ⌝ }
-    requires { ⌜ Below node top ⌝ }
-    ensures { λ r. ⌜ Leaf (now (cells .entry)) top node (now (cells .exit)) r ⌝ }
-{
-    let next = term::push(cells, top, node);
-    Made::Term(top, next)
-}
 
 // The choice of a letter's two forms, the capital first.
 fn either_term(cells: &mut [u64], top: usize, letter: usize) -> Made
@@ -38,7 +26,7 @@ fn either_term(cells: &mut [u64], top: usize, letter: usize) -> Made
     let capital = letter - CAPITAL;
     let second = term::push(cells, top, Term::Range(capital, capital));
     let third = term::push(cells, second, Term::Range(letter, letter));
-    normal::alt_fit(cells, third, top, second)
+    choice::alt_fit(cells, third, top, second)
 }
 
 // The repeat of a term, with the limit.
@@ -62,11 +50,11 @@ fn node_term(cells: &mut [u64], top: usize, node: Node, a: usize, b: usize) -> M
     ensures { λ r. ⌜ NodeMade node (now (cells .entry)) top a b (now (cells .exit)) r ⌝ }
 {
     match node {
-        Node::Nothing => leaf_term(cells, top, Term::Nothing),
-        Node::Empty => leaf_term(cells, top, Term::Empty),
-        Node::Range(lo, hi) => leaf_term(cells, top, Term::Range(lo, hi)),
+        Node::Nothing => normal::leaf(cells, top, Term::Nothing),
+        Node::Empty => normal::leaf(cells, top, Term::Empty),
+        Node::Range(lo, hi) => normal::leaf(cells, top, Term::Range(lo, hi)),
         Node::Cat => normal::cat_fit(cells, top, a, b),
-        Node::Alt => normal::alt_fit(cells, top, a, b),
+        Node::Alt => choice::alt_fit(cells, top, a, b),
         Node::Star => star_term(cells, top, b),
         Node::Either(letter) => either_term(cells, top, letter),
     }

@@ -29,7 +29,7 @@ pub fn first_vector(book: &[u8], n: usize, index: &mut [usize], cells: &mut [u64
                 vector: Vector { at: to },
             };
         };
-        let placed = pool::put_term(index, cells, top, root);
+        let placed = pooling::put_term(index, cells, top, root);
         to[i] = placed.root;
         top = placed.top;
         i += 1;

@@ -27,7 +27,7 @@ use Rattle.term.specs.CellLaws.{Same, frame, sound-less}
 use Rattle.normal.specs.declared.Made.{Made}
 use Rattle.normal.specs.declared.Made.the-variants.{Long as Made·long}
 use Rattle.normal.specs.Made.{Wasted, MadeBy}
-use Rattle.normal.specs.Asked.{derivRoom, derivCells, Derives}
+use Rattle.derivative.specs.Derives.{derivRoom, derivCells, Derives}
 use Rattle.normal.specs.AnswerLaws.{Got, long-is}
 use Rattle.walk.specs.Vectors.{Vector, front, derived}
 use Rattle.walk.specs.Vectors.Vector.{TooLong, Terms}

@@ -104,7 +104,7 @@ pub fn edge_of(cells: &[u64], v: Vector, n: usize, byte: usize) -> usize
     let mut least = BYTES;
     let mut i: usize = 0;
     while i < n {
-        let edge = normal::next_edge(cells, at[i], byte);
+        let edge = derivative::next_edge(cells, at[i], byte);
         if edge < least {
             least = edge;
         }
@@ -130,14 +130,14 @@ pub fn derive_vector(
     let mut next = top;
     let mut i: usize = 0;
     while i < n {
-        let Made::Term(root, _) = normal::derive(cells, next, from[i], byte) else {
+        let Made::Term(root, _) = derivative::derive(cells, next, from[i], byte) else {
             return Derived {
                 long: true,
                 top,
                 vector: v,
             };
         };
-        let placed = pool::put_term(index, cells, next, root);
+        let placed = pooling::put_term(index, cells, next, root);
         to[i] = placed.root;
         next = placed.top;
         i += 1;

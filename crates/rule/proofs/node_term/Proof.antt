@@ -10,20 +10,20 @@ use Rattle.rule.proofs.node_term.Tie as tie
 enum-told : tie.Need-enum-told
 enum-told c = search needs
 
-leaf-term-requires : tie.Need-leaf-term-requires
-leaf-term-requires c κs = search needs
+leaf-requires : tie.Need-leaf-requires
+leaf-requires c κs = search needs
 
 enum-told-2 : tie.Need-enum-told-2
 enum-told-2 c = search needs
 
-leaf-term-requires-2 : tie.Need-leaf-term-requires-2
-leaf-term-requires-2 c κs = search needs
+leaf-requires-2 : tie.Need-leaf-requires-2
+leaf-requires-2 c κs = search needs
 
 enum-known-node : tie.Need-enum-known-node
 enum-known-node c = search needs
 
-leaf-term-requires-3 : tie.Need-leaf-term-requires-3
-leaf-term-requires-3 c κs =
+leaf-requires-3 : tie.Need-leaf-requires-3
+leaf-requires-3 c κs =
     let o = c .before .before .before .before .before .pre in
     let w = node-within o (Range _ _) (c .before .before .node .given .1) in
     (o .sound, (node-room o, (omega arith, omega arith)))
@@ -62,21 +62,21 @@ same-length c = search needs
 
 returns : tie.Need-returns
 returns c =
-    node-as Nothing _ _ (c .before .before .before .before .enum-told .given .1) (c .before .before .leaf-term .ensures)
+    node-as Nothing _ _ (c .before .before .before .before .enum-told .given .1) (c .before .before .leaf .ensures)
 
 same-length-2 : tie.Need-same-length-2
 same-length-2 c = search needs
 
 returns-2 : tie.Need-returns-2
 returns-2 c =
-    node-as Empty _ _ (c .before .before .before .before .enum-told2 .given .1) (c .before .before .leaf-term2 .ensures)
+    node-as Empty _ _ (c .before .before .before .before .enum-told2 .given .1) (c .before .before .leaf2 .ensures)
 
 same-length-3 : tie.Need-same-length-3
 same-length-3 c = search needs
 
 returns-3 : tie.Need-returns-3
 returns-3 c =
-    node-as (Range _ _) _ _ (c .before .before .before .before .before .node .given .1) (c .before .before .leaf-term3 .ensures)
+    node-as (Range _ _) _ _ (c .before .before .before .before .before .node .given .1) (c .before .before .leaf3 .ensures)
 
 same-length-4 : tie.Need-same-length-4
 same-length-4 c = search needs
@@ -111,11 +111,11 @@ node-term-spec =
     tie.close
     (tie.spec
     enum-told
-    leaf-term-requires
+    leaf-requires
     enum-told-2
-    leaf-term-requires-2
+    leaf-requires-2
     enum-known-node
-    leaf-term-requires-3
+    leaf-requires-3
     enum-told-3
     cat-fit-requires
     enum-told-4

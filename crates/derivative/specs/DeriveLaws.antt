@@ -1,0 +1,654 @@
+-- Laws for derive, one for each of its calls and returns, over what the node told and what the callees answered.
+-- Pure laws come first: the limited derivative by its parts, and the cells that a Cat uses.
+use Prim.Native.Nat.{ℕ, _+_, _-_, _*_, _<_, _≤_}
+use native.Mathlib.Omega.{arith}
+use mathlib.Core.Path.{_≡_, refl, sym, ap, _∙_}
+use mathlib.Core.Bool.{Bool, true, false, cond, _&&_, _||_}
+use mathlib.Core.List.{List}
+use lib.Dec.{leb}
+use lib.ListN.{length}
+use borrow.Author.Tests.{le-leb}
+use Rattle.number.specs.Limits.{treeNodes}
+use Rattle.number.specs.Branch.{by-cond}
+use Rattle.meaning.specs.Re.{Re, size, isNothing, isEmpty}
+use Rattle.meaning.specs.Normal.{cat, alt}
+use Rattle.meaning.specs.Derive.{nullable, deriv}
+use Rattle.meaning.specs.Limited.{Fit, _>>=_, short, fit, derivFit}
+use Rattle.meaning.specs.Limited.Fit.{Long, Fits}
+use Rattle.meaning.specs.LimitedLaws.{deriv-short}
+use Rattle.meaning.specs.Shape.{InShape}
+use Rattle.meaning.specs.ShapeLaws.{shape-cat, shape-deriv, cat-members}
+use Rattle.meaning.specs.SizeLaws.{spine, size-some, short-size, short-members, short-spine}
+use Rattle.term.specs.declared.Term.{Term}
+use Rattle.term.specs.declared.Term.the-variants.{Nothing, Empty, Range, Cat, Alt, Star}
+use Rattle.term.specs.Cells.{grow, term, Below, Sound}
+use Rattle.term.specs.Area.{Grown}
+use Rattle.term.specs.Nodes.{Found}
+use Rattle.term.specs.CellLaws.{sound-less, grown-refl, grown-trans, grown-term}
+use Rattle.term.specs.ReadLaws.{cat-size, alt-size, star-size}
+use Rattle.normal.specs.declared.Made.{Made}
+use Rattle.normal.specs.declared.Made.the-variants.{Term as Made·term, Long as Made·long}
+use Rattle.normal.specs.Made.{MadeBy}
+use Rattle.normal.specs.Asked.{catCells, Links}
+use Rattle.normal.specs.ChainLaws.{cat-few, cat-idle-left}
+use Rattle.normal.specs.AnswerLaws.{Got, long-is, made-term, made-after, long-after}
+use Rattle.choice.specs.Asked.{members, mostMembers, altCells, ShortChoices}
+use Rattle.choice.specs.UniteLaws.{alt-few, alt-idle-left}
+use Rattle.derivative.specs.Derives.{derivRoom, derivCells, Derives, rangeLeft}
+
+-- ---- the limited derivative is short
+
+abbrev Short : Fit → Type 0
+Short Long = Unit
+Short (Fits v) = short v ≡ true
+
+fit-is-short : (v : Re) → Short (fit v)
+fit-is-short v = by-cond Short (short v) (λ e. e) (λ _. tt)
+
+then-short : (m : Fit) (f : Re → Fit) → Short m → ((v : Re) → short v ≡ true → Short (f v)) → Short (m >>= f)
+then-short Long f e h = tt
+then-short (Fits v) f e h = h v e
+
+range-is-short : (b : Bool) → short (cond b Re.Empty Re.Nothing) ≡ true
+unfolding size
+range-is-short true = refl
+range-is-short false = refl
+
+deriv-is-short : (c : ℕ) (r : Re) → Short (derivFit c r)
+unfolding derivFit deriv size
+deriv-is-short c Re.Nothing = refl
+deriv-is-short c Re.Empty = refl
+deriv-is-short c (Re.Range lo hi) = range-is-short (leb lo c && leb c hi)
+deriv-is-short c (Re.Cat a b) =
+    then-short (derivFit c a) _ (deriv-is-short c a)
+    (λ da _. then-short (fit (cat da b)) _ (fit-is-short (cat da b)) (λ left e. go left e (nullable a) (deriv-is-short c b)))
+  where
+    go : (left : Re) → short left ≡ true → (n : Bool) → Short (derivFit c b)
+        → Short (elim n [ true ↦ derivFit c b >>= (λ db. fit (alt left db)) | false ↦ Fits left ])
+    go left e true h = then-short (derivFit c b) _ h (λ db _. fit-is-short (alt left db))
+    go left e false h = e
+deriv-is-short c (Re.Alt a b) =
+    then-short (derivFit c a) _ (deriv-is-short c a)
+    (λ da _. then-short (derivFit c b) _ (deriv-is-short c b) (λ db _. fit-is-short (alt da db)))
+deriv-is-short c (Re.Star a) = then-short (derivFit c a) _ (deriv-is-short c a) (λ da _. fit-is-short (cat da (Re.Star a)))
+
+fits-short : (f : Fit) (v : Re) → Short f → f ≡ Fits v → short v ≡ true
+fits-short f v h e = rw e at h
+
+-- so a derivative that fits is short, and in shape where its term is
+pub derived-short : (c : ℕ) (r v : Re) → derivFit c r ≡ Fits v → short v ≡ true
+derived-short c r v e = fits-short (derivFit c r) v (deriv-is-short c r) e
+
+pub derived-shape : (c : ℕ) (r v : Re) → InShape r → derivFit c r ≡ Fits v → InShape v
+derived-shape c r v s e = rw (deriv-short c r v e) (shape-deriv c r s)
+
+fit-value : (v w : Re) → fit v ≡ Fits w → w ≡ v
+fit-value v w = go (short v)
+  where
+    go : (b : Bool) → cond b (Fits v) Long ≡ Fits w → w ≡ v
+    go true e = cc
+    go false e = absurd (let z : _≡_ {A = ℕ} 0 1 = cc in omega arith)
+
+-- ---- the limited derivative by its parts
+
+module _ (c : ℕ) (a b : Re) where
+  cat-long-1 : derivFit c a ≡ Long → derivFit c (Re.Cat a b) ≡ Long
+  unfolding derivFit
+  cat-long-1 e = rw e
+
+  alt-long-1 : derivFit c a ≡ Long → derivFit c (Re.Alt a b) ≡ Long
+  unfolding derivFit
+  alt-long-1 e = rw e
+
+  module _ (v : Re) (x : derivFit c a ≡ Fits v) where
+    cat-long-2 : fit (cat v b) ≡ Long → derivFit c (Re.Cat a b) ≡ Long
+    unfolding derivFit
+    cat-long-2 e = rw (x, e)
+
+    module _ (w : Re) (y : fit (cat v b) ≡ Fits w) where
+      cat-fits : nullable a ≡ false → derivFit c (Re.Cat a b) ≡ Fits w
+      unfolding derivFit
+      cat-fits e = rw (x, y, e)
+
+      cat-long-3 : nullable a ≡ true → derivFit c b ≡ Long → derivFit c (Re.Cat a b) ≡ Long
+      unfolding derivFit
+      cat-long-3 e d = rw (x, y, e, d)
+
+      cat-fits-both : nullable a ≡ true → (z : Re) → derivFit c b ≡ Fits z → fit (alt w z) ≡ derivFit c (Re.Cat a b)
+      unfolding derivFit
+      cat-fits-both e z d = rw (x, y, e, d)
+
+    alt-long-2 : derivFit c b ≡ Long → derivFit c (Re.Alt a b) ≡ Long
+    unfolding derivFit
+    alt-long-2 e = rw (x, e)
+
+    alt-fits : (w : Re) → derivFit c b ≡ Fits w → fit (alt v w) ≡ derivFit c (Re.Alt a b)
+    unfolding derivFit
+    alt-fits w e = rw (x, e)
+
+star-long-1 : (c : ℕ) (a : Re) → derivFit c a ≡ Long → derivFit c (Re.Star a) ≡ Long
+unfolding derivFit
+star-long-1 c a e = rw e
+
+star-fits : (c : ℕ) (a v : Re) → derivFit c a ≡ Fits v → fit (cat v (Re.Star a)) ≡ derivFit c (Re.Star a)
+unfolding derivFit
+star-fits c a v e = rw e
+
+-- ---- the cells that the two steps of a Cat use together
+
+or-left : {p : Bool} (q : Bool) → p ≡ true → (p || q) ≡ true
+or-left q e = rw e
+
+or-right : {p q : Bool} → p ≡ false → q ≡ true → (p || q) ≡ true
+or-right e f = rw (e, f)
+
+left-none : (v b : Re) → isNothing v ≡ true → cat v b ≡ Re.Nothing
+unfolding cat
+left-none v b e = rw e
+
+two-steps : (v b w z : Re) → w ≡ cat v b → InShape w → InShape z → short v ≡ true → short w ≡ true → short z ≡ true → isNothing b ≡ false
+    → isEmpty b ≡ false → catCells v b + altCells w z ≤ 2 * mostMembers
+two-steps v b w z e s t sv sw sz m n = go (isNothing v) (isEmpty v) refl refl
+  where
+    go : (p q : Bool) → isNothing v ≡ p → isEmpty v ≡ q → catCells v b + altCells w z ≤ 2 * mostMembers
+    go true q f g =
+        let gone : isNothing w ≡ true = ap isNothing (e ∙ left-none v b f) in
+        omega (arith, cat-idle-left v b (or-left (isEmpty v) f), alt-idle-left w z gone)
+    go false true f g =
+        omega (arith, cat-idle-left v b (or-right f g), alt-few w z s t, short-members w sw, short-members z sz)
+    go false false f g =
+        omega (
+          arith,
+          cat-few v b,
+          short-spine v sv,
+          alt-few w z s t,
+          ap members e,
+          cat-members v b f g m n,
+          short-members z sz,
+        )
+
+-- ---- a part of a held term
+
+range-grown : (s : List ℕ) (b : Bool) → grow (cond b Empty Nothing) (term s) ≡ cond b Re.Empty Re.Nothing
+range-grown s true = refl
+range-grown s false = refl
+
+range-fits : (s : List ℕ) (c lo hi : ℕ) (u : Term) → u ≡ rangeLeft lo hi c → Fits (grow u (term s)) ≡ derivFit c (Re.Range lo hi)
+unfolding derivFit deriv
+range-fits s c lo hi u e = rw e (ap Fits (range-grown s (leb lo c && leb c hi)))
+
+part-short : (r x : Re) → short r ≡ true → size x ≤ size r → short x ≡ true
+part-short r x e h = le-leb (size x) treeNodes (omega (arith, short-size r e))
+
+-- cells as they are counted
+room-of : (r : Re) (n : ℕ) → size r ≡ n → derivRoom r ≡ (mostMembers + 1) * n
+unfolding derivRoom
+room-of r n e = rw e
+
+cells-of : (r : Re) (n : ℕ) → size r ≡ n → derivCells r ≡ (mostMembers + 1) * n - mostMembers
+unfolding derivCells
+cells-of r n e = rw e
+
+pub room-size : (r : Re) → derivRoom r ≡ (mostMembers + 1) * size r
+room-size r = room-of r (size r) refl
+
+pub cells-size : (r : Re) → derivCells r ≡ (mostMembers + 1) * size r - mostMembers
+cells-size r = cells-of r (size r) refl
+
+-- the most that a short term needs
+pub room-short : (r : Re) → short r ≡ true → derivRoom r ≤ (mostMembers + 1) * treeNodes
+room-short r e = omega (arith, room-size r, short-size r e)
+
+module _ {s : List ℕ} {top i : ℕ} (d : Derives s top i) where
+  -- a part, after some growth
+  later : {s′ : List ℕ} {top′ : ℕ} (used a : ℕ) → Grown s top s′ top′ → top′ ≤ top + used → a < i → InShape (term s a)
+      → size (term s a) ≤ size (term s i) → used + derivRoom (term s a) ≤ derivRoom (term s i) → Derives s′ top′ a
+  later {s′} {top′} used a g h k t l m =
+      let up = g .up in
+      let held = d .held in
+      let same : term s′ a ≡ term s a = grown-term a g (d .sound) (omega arith) in
+      record {
+        sound = g .sound;
+        held = omega arith;
+        in-shape = rw same t;
+        is-short = rw same (part-short (term s i) (term s a) (d .is-short) l);
+        room = rw same (omega (arith, d .room, g .same-length));
+      }
+
+  first-part : (a : ℕ) → a < i → InShape (term s a) → size (term s a) ≤ size (term s i) → Derives s top a
+  first-part a k t l =
+      later 0 a (grown-refl (d .sound)) (omega arith) k t l (omega (arith, room-size (term s a), room-size (term s i)))
+
+  -- a leaf
+  pub leaf-asks : Sound s top × ((top < length s) × Unit {0})
+  leaf-asks = (d .sound, (omega (arith, d .room, room-size (term s i), size-some (term s i)), tt))
+
+  pub range-asks : {u : Term} (lo hi byte : ℕ) → u ≡ rangeLeft lo hi byte → Sound s top × ((top < length s) × Below u top)
+  range-asks {u} lo hi byte e = (
+    d .sound,
+    (
+      omega (arith, d .room, room-size (term s i), size-some (term s i)),
+      rw e (by-cond (λ v. Below v top) (leb lo byte && leb byte hi) (λ _. tt) (λ _. tt)),
+    ),
+  )
+
+  leaf-up : (c : ℕ) (f : Fit) → f ≡ derivFit c (term s i) → {s′ : List ℕ} {r : Made} → MadeBy s top s′ r f 1
+      → MadeBy s top s′ r (derivFit c (term s i)) (derivCells (term s i))
+  leaf-up c f e m =
+      made-after 0 (derivCells (term s i)) (derivFit c (term s i)) (grown-refl (d .sound)) (omega arith) m e
+      (omega (arith, cells-size (term s i), size-some (term s i)))
+
+  pub nothing-up : (c : ℕ) → Found s i Nothing → {s′ : List ℕ} {r : Made} → MadeBy s top s′ r (Fits Re.Nothing) 1
+      → MadeBy s top s′ r (derivFit c (term s i)) (derivCells (term s i))
+  unfolding derivFit
+  nothing-up c f m = leaf-up c (Fits Re.Nothing) (sym (ap (derivFit c) (f .is))) m
+
+  pub empty-up : (c : ℕ) → Found s i Empty → {s′ : List ℕ} {r : Made} → MadeBy s top s′ r (Fits Re.Nothing) 1
+      → MadeBy s top s′ r (derivFit c (term s i)) (derivCells (term s i))
+  unfolding derivFit
+  empty-up c f m = leaf-up c (Fits Re.Nothing) (sym (ap (derivFit c) (f .is))) m
+
+  pub range-up : (c lo hi : ℕ) → Found s i (Range lo hi) → {u : Term} → u ≡ rangeLeft lo hi c → {s′ : List ℕ} {r : Made}
+      → MadeBy s top s′ r (Fits (grow u (term s))) 1 → MadeBy s top s′ r (derivFit c (term s i)) (derivCells (term s i))
+  range-up c lo hi f {u} e m = leaf-up c (Fits (grow u (term s))) (range-fits s c lo hi u e ∙ sym (ap (derivFit c) (f .is))) m
+
+  -- ---- Cat
+
+  module _ (c : ℕ) {a b : ℕ} (f : Found s i (Cat a b)) where
+    cat-shape : InShape (Re.Cat (term s a) (term s b))
+    cat-shape = rw (f .is) at (d .in-shape)
+
+    cat-is : derivFit c (term s i) ≡ derivFit c (Re.Cat (term s a) (term s b))
+    cat-is = ap (derivFit c) (f .is)
+
+    pub cat-left : Derives s top a
+    cat-left = first-part a (f .below .0) (cat-shape .0) (omega (arith, cat-size s i a b f))
+
+    pub cat-left-long : {s₁ : List ℕ} {r : Made} → MadeBy s top s₁ r (derivFit c (term s a)) (derivCells (term s a)) → r ≡ Made·long
+        → MadeBy s top s₁ Made·long (derivFit c (term s i)) (derivCells (term s i))
+    cat-left-long m e =
+        long-after 0 (derivCells (term s i)) (derivFit c (term s i)) (grown-refl (d .sound)) (omega arith) m e
+        (cat-is ∙ cat-long-1 c (term s a) (term s b) (long-is m e))
+        (omega (arith, cat-size s i a b f, cells-size (term s a), cells-size (term s i)))
+
+    -- the first side's derivative is there
+    module _ {s₁ : List ℕ} {da first : ℕ} (g : Got s top s₁ da first (derivFit c (term s a)) (derivCells (term s a))) where
+      da-short : short (g .value) ≡ true
+      da-short = derived-short c (term s a) (g .value) (g .fits)
+
+      da-shape : InShape (g .value)
+      da-shape = derived-shape c (term s a) (g .value) (cat-shape .0) (g .fits)
+
+      b-stays : term s₁ b ≡ term s b
+      b-stays = grown-term b (g .makes .grown) (d .sound) (omega (arith, f .below .1, d .held))
+
+      pub cat-middle : Links s₁ first da b
+      cat-middle =
+          record {
+            sound = g .makes .grown .sound;
+            left = g .makes .within;
+            right = omega (arith, f .below .1, d .held, g .makes .grown .up);
+            room = omega (
+              arith,
+              ap spine (g .makes .is),
+              short-spine (g .value) da-short,
+              g .makes .few,
+              g .makes .grown .same-length,
+              d .room,
+              cells-size (term s a),
+              room-size (term s i),
+              cat-size s i a b f,
+              size-some (term s a),
+            );
+          }
+
+      middle-is : fit (cat (term s₁ da) (term s₁ b)) ≡ fit (cat (g .value) (term s b))
+      middle-is = cc (g .makes .is, b-stays)
+
+      middle-cells : catCells (term s₁ da) (term s₁ b) ≡ catCells (g .value) (term s b)
+      middle-cells = cc (g .makes .is, b-stays)
+
+      middle-few : catCells (g .value) (term s b) ≤ mostMembers
+      middle-few = omega (arith, cat-few (g .value) (term s b), short-spine (g .value) da-short)
+
+      pub cat-middle-long : {s₂ : List ℕ} {r : Made}
+          → MadeBy s₁ first s₂ r (fit (cat (term s₁ da) (term s₁ b))) (catCells (term s₁ da) (term s₁ b)) → r ≡ Made·long
+          → MadeBy s top s₂ Made·long (derivFit c (term s i)) (derivCells (term s i))
+      cat-middle-long m e =
+          long-after (derivCells (term s a)) (derivCells (term s i)) (derivFit c (term s i)) (g .makes .grown) (g .makes .few) m e
+          (cat-is ∙ cat-long-2 c (term s a) (term s b) (g .value) (g .fits) (sym middle-is ∙ long-is m e))
+          (omega (arith, middle-cells, middle-few, cat-size s i a b f, cells-size (term s a), cells-size (term s i), size-some (term s a)))
+
+      -- and so is the Cat
+      module _ {s₂ : List ℕ} {left second : ℕ}
+          (h : Got s₁ first s₂ left second (fit (cat (term s₁ da) (term s₁ b))) (catCells (term s₁ da) (term s₁ b))) where
+        left-fits : fit (cat (g .value) (term s b)) ≡ Fits (h .value)
+        left-fits = sym middle-is ∙ h .fits
+
+        left-is : h .value ≡ cat (g .value) (term s b)
+        left-is = fit-value (cat (g .value) (term s b)) (h .value) left-fits
+
+        left-short : short (h .value) ≡ true
+        left-short = fits-short (fit (cat (g .value) (term s b))) (h .value) (fit-is-short (cat (g .value) (term s b))) left-fits
+
+        left-shape : InShape (h .value)
+        left-shape = rw left-is (shape-cat (g .value) (term s b) da-shape (cat-shape .1))
+
+        grown-2 : Grown s top s₂ second
+        grown-2 = grown-trans (g .makes .grown) (h .makes .grown)
+
+        few-2 : second ≤ top + (derivCells (term s a) + catCells (g .value) (term s b))
+        few-2 = omega (arith, g .makes .few, h .makes .few, middle-cells)
+
+        pub null-asks : Sound s₂ (a + 1)
+        null-asks = sound-less (a + 1) (grown-2 .sound) (omega (arith, f .below .0, d .held, grown-2 .up))
+
+        pub null-told : {p q : Bool} → p ≡ nullable (term s₂ a) → p ≡ q → nullable (term s a) ≡ q
+        null-told e t =
+            sym (ap nullable (grown-term a grown-2 (d .sound) (omega (arith, f .below .0, d .held)))) ∙ sym e ∙ t
+
+        pub cat-alone : nullable (term s a) ≡ false → MadeBy s top s₂ (Made·term left second) (derivFit c (term s i)) (derivCells (term s i))
+        cat-alone e =
+            made-after (derivCells (term s a)) (derivCells (term s i)) (derivFit c (term s i)) (g .makes .grown) (g .makes .few)
+            (made-term (fit (cat (term s₁ da) (term s₁ b))) (catCells (term s₁ da) (term s₁ b)) (h .makes) (h .fits) (omega arith))
+            (h .fits ∙ sym (cat-is ∙ cat-fits c (term s a) (term s b) (g .value) (g .fits) (h .value) left-fits e))
+            (omega (arith, middle-cells, middle-few, cat-size s i a b f, cells-size (term s a), cells-size (term s i), size-some (term s a)))
+
+        b-stays-2 : term s₂ b ≡ term s b
+        b-stays-2 = grown-term b grown-2 (d .sound) (omega (arith, f .below .1, d .held))
+
+        pub cat-right : Derives s₂ second b
+        cat-right =
+            later (derivCells (term s a) + catCells (g .value) (term s b)) b grown-2 few-2 (f .below .1) (cat-shape .1)
+            (omega (arith, cat-size s i a b f))
+            (omega (
+              arith,
+              middle-few,
+              cat-size s i a b f,
+              cells-size (term s a),
+              room-size (term s b),
+              room-size (term s i),
+              size-some (term s a),
+            ))
+
+        pub cat-right-long : nullable (term s a) ≡ true → {s₃ : List ℕ} {r : Made}
+            → MadeBy s₂ second s₃ r (derivFit c (term s₂ b)) (derivCells (term s₂ b)) → r ≡ Made·long
+            → MadeBy s top s₃ Made·long (derivFit c (term s i)) (derivCells (term s i))
+        cat-right-long t m e =
+            long-after (derivCells (term s a) + catCells (g .value) (term s b)) (derivCells (term s i)) (derivFit c (term s i)) grown-2 few-2 m e
+            (cat-is ∙ cat-long-3 c (term s a) (term s b) (g .value) (g .fits) (h .value) left-fits t
+            (sym (ap (derivFit c) b-stays-2) ∙ long-is m e))
+            (omega (
+              arith,
+              middle-few,
+              ap derivCells b-stays-2,
+              cat-size s i a b f,
+              cells-size (term s a),
+              cells-size (term s b),
+              cells-size (term s i),
+              size-some (term s a),
+              size-some (term s b),
+            ))
+
+        -- and the second side's derivative
+        module _ {s₃ : List ℕ} {db third : ℕ} (k : Got s₂ second s₃ db third (derivFit c (term s₂ b)) (derivCells (term s₂ b))) where
+          db-fits : derivFit c (term s b) ≡ Fits (k .value)
+          db-fits = sym (ap (derivFit c) b-stays-2) ∙ k .fits
+
+          db-short : short (k .value) ≡ true
+          db-short = derived-short c (term s b) (k .value) db-fits
+
+          db-shape : InShape (k .value)
+          db-shape = derived-shape c (term s b) (k .value) (cat-shape .1) db-fits
+
+          left-stays : term s₃ left ≡ h .value
+          left-stays = grown-term left (k .makes .grown) (h .makes .grown .sound) (h .makes .within) ∙ h .makes .is
+
+          few-3 : third ≤ top + (derivCells (term s a) + catCells (g .value) (term s b) + derivCells (term s b))
+          few-3 = omega (arith, few-2, k .makes .few, ap derivCells b-stays-2)
+
+          pub cat-last : ShortChoices s₃ third left db
+          cat-last =
+              record {
+                choices = record {
+                  sound = k .makes .grown .sound;
+                  left = omega (arith, h .makes .within, k .makes .grown .up);
+                  right = k .makes .within;
+                  left-shape = rw left-stays left-shape;
+                  right-shape = rw (k .makes .is) db-shape;
+                  room = omega (
+                    arith,
+                    ap members left-stays,
+                    ap members (k .makes .is),
+                    short-members (h .value) left-short,
+                    short-members (k .value) db-short,
+                    few-3,
+                    middle-few,
+                    k .makes .grown .same-length,
+                    grown-2 .same-length,
+                    d .room,
+                    cells-size (term s a),
+                    cells-size (term s b),
+                    room-size (term s i),
+                    cat-size s i a b f,
+                    size-some (term s a),
+                    size-some (term s b),
+                  );
+                };
+                left-short = rw left-stays left-short;
+                right-short = rw (k .makes .is) db-short;
+              }
+
+          last-cells : altCells (term s₃ left) (term s₃ db) ≡ altCells (h .value) (k .value)
+          last-cells = cc (left-stays, k .makes .is)
+
+          last-is : fit (alt (term s₃ left) (term s₃ db)) ≡ fit (alt (h .value) (k .value))
+          last-is = cc (left-stays, k .makes .is)
+
+          pub cat-both : nullable (term s a) ≡ true → {s₄ : List ℕ} {r : Made}
+              → MadeBy s₃ third s₄ r (fit (alt (term s₃ left) (term s₃ db))) (altCells (term s₃ left) (term s₃ db))
+              → MadeBy s top s₄ r (derivFit c (term s i)) (derivCells (term s i))
+          cat-both t m =
+              made-after (derivCells (term s a) + catCells (g .value) (term s b) + derivCells (term s b)) (derivCells (term s i)) (derivFit c (term s i))
+              (grown-trans grown-2 (k .makes .grown)) few-3 m
+              (last-is ∙ cat-fits-both c (term s a) (term s b) (g .value) (g .fits) (h .value) left-fits t (k .value) db-fits ∙ sym cat-is)
+              (omega (
+                arith,
+                last-cells,
+                two-steps (g .value) (term s b) (h .value) (k .value) left-is left-shape db-shape da-short left-short db-short
+                    (cat-shape .2 .right-some) (cat-shape .2 .right-long),
+                cat-size s i a b f,
+                cells-size (term s a),
+                cells-size (term s b),
+                cells-size (term s i),
+                size-some (term s a),
+                size-some (term s b),
+              ))
+
+  -- ---- Alt
+
+  module _ (c : ℕ) {a b : ℕ} (f : Found s i (Alt a b)) where
+    alt-shape : InShape (Re.Alt (term s a) (term s b))
+    alt-shape = rw (f .is) at (d .in-shape)
+
+    alt-is : derivFit c (term s i) ≡ derivFit c (Re.Alt (term s a) (term s b))
+    alt-is = ap (derivFit c) (f .is)
+
+    pub alt-left : Derives s top a
+    alt-left = first-part a (f .below .0) (alt-shape .0) (omega (arith, alt-size s i a b f))
+
+    pub alt-left-long : {s₁ : List ℕ} {r : Made} → MadeBy s top s₁ r (derivFit c (term s a)) (derivCells (term s a)) → r ≡ Made·long
+        → MadeBy s top s₁ Made·long (derivFit c (term s i)) (derivCells (term s i))
+    alt-left-long m e =
+        long-after 0 (derivCells (term s i)) (derivFit c (term s i)) (grown-refl (d .sound)) (omega arith) m e
+        (alt-is ∙ alt-long-1 c (term s a) (term s b) (long-is m e))
+        (omega (arith, alt-size s i a b f, cells-size (term s a), cells-size (term s i)))
+
+    module _ {s₁ : List ℕ} {da first : ℕ} (g : Got s top s₁ da first (derivFit c (term s a)) (derivCells (term s a))) where
+      b-kept : term s₁ b ≡ term s b
+      b-kept = grown-term b (g .makes .grown) (d .sound) (omega (arith, f .below .1, d .held))
+
+      pub alt-right : Derives s₁ first b
+      alt-right =
+          later (derivCells (term s a)) b (g .makes .grown) (g .makes .few) (f .below .1) (alt-shape .1) (omega (arith, alt-size s i a b f))
+          (omega (arith, alt-size s i a b f, cells-size (term s a), room-size (term s b), room-size (term s i)))
+
+      pub alt-right-long : {s₂ : List ℕ} {r : Made} → MadeBy s₁ first s₂ r (derivFit c (term s₁ b)) (derivCells (term s₁ b)) → r ≡ Made·long
+          → MadeBy s top s₂ Made·long (derivFit c (term s i)) (derivCells (term s i))
+      alt-right-long m e =
+          long-after (derivCells (term s a)) (derivCells (term s i)) (derivFit c (term s i)) (g .makes .grown) (g .makes .few) m e
+          (alt-is ∙ alt-long-2 c (term s a) (term s b) (g .value) (g .fits) (sym (ap (derivFit c) b-kept) ∙ long-is m e))
+          (omega (
+            arith,
+            ap derivCells b-kept,
+            alt-size s i a b f,
+            cells-size (term s a),
+            cells-size (term s b),
+            cells-size (term s i),
+            size-some (term s a),
+            size-some (term s b),
+          ))
+
+      module _ {s₂ : List ℕ} {db second : ℕ} (h : Got s₁ first s₂ db second (derivFit c (term s₁ b)) (derivCells (term s₁ b))) where
+        right-fits : derivFit c (term s b) ≡ Fits (h .value)
+        right-fits = sym (ap (derivFit c) b-kept) ∙ h .fits
+
+        first-short : short (g .value) ≡ true
+        first-short = derived-short c (term s a) (g .value) (g .fits)
+
+        second-short : short (h .value) ≡ true
+        second-short = derived-short c (term s b) (h .value) right-fits
+
+        first-shape : InShape (g .value)
+        first-shape = derived-shape c (term s a) (g .value) (alt-shape .0) (g .fits)
+
+        second-shape : InShape (h .value)
+        second-shape = derived-shape c (term s b) (h .value) (alt-shape .1) right-fits
+
+        da-stays : term s₂ da ≡ g .value
+        da-stays = grown-term da (h .makes .grown) (g .makes .grown .sound) (g .makes .within) ∙ g .makes .is
+
+        few-both : second ≤ top + (derivCells (term s a) + derivCells (term s b))
+        few-both = omega (arith, g .makes .few, h .makes .few, ap derivCells b-kept)
+
+        pub alt-last : ShortChoices s₂ second da db
+        alt-last =
+            record {
+              choices = record {
+                sound = h .makes .grown .sound;
+                left = omega (arith, g .makes .within, h .makes .grown .up);
+                right = h .makes .within;
+                left-shape = rw da-stays first-shape;
+                right-shape = rw (h .makes .is) second-shape;
+                room = omega (
+                  arith,
+                  ap members da-stays,
+                  ap members (h .makes .is),
+                  short-members (g .value) first-short,
+                  short-members (h .value) second-short,
+                  few-both,
+                  h .makes .grown .same-length,
+                  g .makes .grown .same-length,
+                  d .room,
+                  cells-size (term s a),
+                  cells-size (term s b),
+                  room-size (term s i),
+                  alt-size s i a b f,
+                  size-some (term s a),
+                  size-some (term s b),
+                );
+              };
+              left-short = rw da-stays first-short;
+              right-short = rw (h .makes .is) second-short;
+            }
+
+        both-cells : altCells (term s₂ da) (term s₂ db) ≡ altCells (g .value) (h .value)
+        both-cells = cc (da-stays, h .makes .is)
+
+        both-is : fit (alt (term s₂ da) (term s₂ db)) ≡ fit (alt (g .value) (h .value))
+        both-is = cc (da-stays, h .makes .is)
+
+        pub alt-up : {s₃ : List ℕ} {r : Made}
+            → MadeBy s₂ second s₃ r (fit (alt (term s₂ da) (term s₂ db))) (altCells (term s₂ da) (term s₂ db))
+            → MadeBy s top s₃ r (derivFit c (term s i)) (derivCells (term s i))
+        alt-up m =
+            made-after (derivCells (term s a) + derivCells (term s b)) (derivCells (term s i)) (derivFit c (term s i))
+            (grown-trans (g .makes .grown) (h .makes .grown)) few-both m
+            (both-is ∙ alt-fits c (term s a) (term s b) (g .value) (g .fits) (h .value) right-fits ∙ sym alt-is)
+            (omega (
+              arith,
+              both-cells,
+              alt-few (g .value) (h .value) first-shape second-shape,
+              short-members (g .value) first-short,
+              short-members (h .value) second-short,
+              alt-size s i a b f,
+              cells-size (term s a),
+              cells-size (term s b),
+              cells-size (term s i),
+              size-some (term s a),
+              size-some (term s b),
+            ))
+
+  -- ---- Star
+
+  module _ (c : ℕ) {a : ℕ} (f : Found s i (Star a)) where
+    star-shape : InShape (Re.Star (term s a))
+    star-shape = rw (f .is) at (d .in-shape)
+
+    star-is : derivFit c (term s i) ≡ derivFit c (Re.Star (term s a))
+    star-is = ap (derivFit c) (f .is)
+
+    pub star-left : Derives s top a
+    star-left = first-part a (f .below) (star-shape .0) (omega (arith, star-size s i a f))
+
+    pub star-left-long : {s₁ : List ℕ} {r : Made} → MadeBy s top s₁ r (derivFit c (term s a)) (derivCells (term s a)) → r ≡ Made·long
+        → MadeBy s top s₁ Made·long (derivFit c (term s i)) (derivCells (term s i))
+    star-left-long m e =
+        long-after 0 (derivCells (term s i)) (derivFit c (term s i)) (grown-refl (d .sound)) (omega arith) m e
+        (star-is ∙ star-long-1 c (term s a) (long-is m e))
+        (omega (arith, star-size s i a f, cells-size (term s a), cells-size (term s i)))
+
+    module _ {s₁ : List ℕ} {da first : ℕ} (g : Got s top s₁ da first (derivFit c (term s a)) (derivCells (term s a))) where
+      part-is-short : short (g .value) ≡ true
+      part-is-short = derived-short c (term s a) (g .value) (g .fits)
+
+      pub star-middle : Links s₁ first da i
+      star-middle =
+          record {
+            sound = g .makes .grown .sound;
+            left = g .makes .within;
+            right = omega (arith, d .held, g .makes .grown .up);
+            room = omega (
+              arith,
+              ap spine (g .makes .is),
+              short-spine (g .value) part-is-short,
+              g .makes .few,
+              g .makes .grown .same-length,
+              d .room,
+              cells-size (term s a),
+              room-size (term s i),
+              star-size s i a f,
+              size-some (term s a),
+            );
+          }
+
+      star-stays : term s₁ i ≡ Re.Star (term s a)
+      star-stays = grown-term i (g .makes .grown) (d .sound) (d .held) ∙ f .is
+
+      pub star-up : {s₂ : List ℕ} {r : Made}
+          → MadeBy s₁ first s₂ r (fit (cat (term s₁ da) (term s₁ i))) (catCells (term s₁ da) (term s₁ i))
+          → MadeBy s top s₂ r (derivFit c (term s i)) (derivCells (term s i))
+      star-up m =
+          let is : fit (cat (term s₁ da) (term s₁ i)) ≡ fit (cat (g .value) (Re.Star (term s a))) = cc (g .makes .is, star-stays) in
+          let cells : catCells (term s₁ da) (term s₁ i) ≡ catCells (g .value) (Re.Star (term s a)) = cc (g .makes .is, star-stays) in
+          made-after (derivCells (term s a)) (derivCells (term s i)) (derivFit c (term s i)) (g .makes .grown) (g .makes .few) m
+          (is ∙ star-fits c (term s a) (g .value) (g .fits) ∙ sym star-is)
+          (omega (
+            arith,
+            cat-few (g .value) (Re.Star (term s a)),
+            short-spine (g .value) part-is-short,
+            star-size s i a f,
+            cells-size (term s a),
+            cells-size (term s i),
+            size-some (term s a),
+          ))

@@ -1,0 +1,5 @@
+-- The derivative in the work area: Derives has the definitions, the other files prove laws that the code's proofs cite.
+-- What the derivative of a term and its next edge are is meaning's to say.
+pub mod Derives
+pub mod DeriveLaws
+pub mod EdgeLaws

@@ -1,0 +1,112 @@
+// The derivative of a term by a byte, in the work area and in normal form; and the next byte at which a derivative can change.
+// Each result on the way is counted, and one of more than 255 nodes is Long.
+ghost use mathlib.Core.Path.{_≡_};
+ghost use Prim.Native.Nat.{_+_, _≤_, min};
+ghost use Rattle.number.specs.Limits.{lastByte};
+ghost use Rattle.meaning.specs.Edges.{nextEdge};
+ghost use Rattle.term.specs.Cells.{term, Sound};
+ghost use Rattle.derivative.specs.Derives.{Derives, rangeLeft, Derived};
+use choice::alt_short;
+use normal::Made;
+use normal::cat_fit;
+use normal::leaf;
+use number::limits::BYTES;
+use term::Term;
+
+// What a range leaves to match after a byte.
+fn read_range(lo: usize, hi: usize, byte: usize) -> Term
+    ensures { λ r. ⌜ r ≡ rangeLeft lo hi byte ⌝ }
+{
+    if byte < lo {
+        return Term::Nothing;
+    }
+    if hi < byte {
+        return Term::Nothing;
+    }
+    Term::Empty
+}
+
+// The derivative of a term by a byte. That of the second side of a Cat is worked out only where the first matches the empty text.
+pub fn derive(cells: &mut [u64], top: usize, i: usize, byte: usize) -> Made
+    requires { ⌜ Derives (now cells) top i ⌝ }
+    ensures { λ r. ⌜ Derived (now (cells .entry)) top i byte (now (cells .exit)) r ⌝ }
+{
+    let node = term::node_at(cells, i);
+    match node {
+        Term::Nothing => leaf(cells, top, Term::Nothing),
+        Term::Empty => leaf(cells, top, Term::Nothing),
+        Term::Range(lo, hi) => leaf(cells, top, read_range(lo, hi, byte)),
+        Term::Cat(a, b) => {
+            let Made::Term(da, first) = derive(cells, top, a, byte) else {
+                return Made::Long;
+            };
+            let Made::Term(left, second) = cat_fit(cells, first, da, b) else {
+                return Made::Long;
+            };
+            if term::nullable(cells, a) {
+                let Made::Term(db, third) = derive(cells, second, b, byte) else {
+                    return Made::Long;
+                };
+                return alt_short(cells, third, left, db);
+            }
+            Made::Term(left, second)
+        }
+        Term::Alt(a, b) => {
+            let Made::Term(da, first) = derive(cells, top, a, byte) else {
+                return Made::Long;
+            };
+            let Made::Term(db, second) = derive(cells, first, b, byte) else {
+                return Made::Long;
+            };
+            alt_short(cells, second, da, db)
+        }
+        Term::Star(a) => {
+            let Made::Term(da, first) = derive(cells, top, a, byte) else {
+                return Made::Long;
+            };
+            cat_fit(cells, first, da, i)
+        }
+    }
+}
+
+fn smaller(m: usize, n: usize) -> usize
+    ensures { λ r. ⌜ r ≡ min m n ⌝ }
+{
+    if m < n {
+        return m;
+    }
+    n
+}
+
+// The next byte at which some range of a term starts or has just ended, or the number of bytes if there is none.
+pub fn next_edge(cells: &[u64], i: usize, byte: usize) -> usize
+    requires { ⌜ Sound (now cells) (i + 1) ⌝ }
+    requires { ⌜ byte ≤ lastByte ⌝ }
+    ensures { λ r. ⌜ r ≡ nextEdge byte (term (now (cells .entry)) i) ⌝ }
+{
+    let node = term::node_at(cells, i);
+    match node {
+        Term::Nothing => BYTES,
+        Term::Empty => BYTES,
+        Term::Range(lo, hi) => {
+            if byte < lo {
+                return lo;
+            }
+            if byte <= hi {
+                return hi + 1;
+            }
+            BYTES
+        }
+        Term::Cat(a, b) => {
+            let first = next_edge(cells, a, byte);
+            let second = next_edge(cells, b, byte);
+            smaller(first, second)
+        }
+        Term::Alt(a, b) => {
+            let first = next_edge(cells, a, byte);
+            let second = next_edge(cells, b, byte);
+            smaller(first, second)
+        }
+        Term::Star(a) => next_edge(cells, a, byte),
+    }
+}
