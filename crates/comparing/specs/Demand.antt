@@ -16,7 +16,7 @@ use Rattle.cutting.specs.Steps.{stepIn, labelOf, FirstBy}
 use Rattle.cutting.specs.Cut.{Cut, Cuts}
 use Rattle.walk.specs.Vectors.{derived, normalised}
 use Rattle.walk.specs.Vectors.Vector.{TooLong}
-use Rattle.walk.specs.Parts.{PartOf, Once, Held}
+use Rattle.walk.specs.Parts.{PartOf, Once, InPool}
 use Rattle.walk.specs.Texts.{Sooner, NotLater}
 
 -- ---- answers
@@ -82,7 +82,7 @@ pub record PairsTo (rs : List Re) (t : Table) (last : Text) (n : ℕ) : Type 0 w
 -- distinct terms, each a part of a vector that a text leads to, up to a text; the empty text counts here
 pub record TermsTo (rs : List Re) (last : Text) (terms : List Re) : Type 0 where
   pub once : Once terms
-  pub part : (x : Re) → Held terms x → (w : Text) × Bytes w × NotLater w last × PartOf x (deriveBy (start rs) w)
+  pub part : (x : Re) → InPool terms x → (w : Text) × Bytes w × NotLater w last × PartOf x (deriveBy (start rs) w)
 
 -- no limit is passed before a text
 pub record Unpassed (rs : List Re) (t : Table) (last : Text) : Type 0 where

@@ -15,7 +15,7 @@ use Rattle.cutting.specs.Steps.{stepIn}
 use Rattle.walk.specs.Vectors.{Vector, derived, normalised}
 use Rattle.walk.specs.Vectors.Vector.{TooLong, Terms}
 use Rattle.walk.specs.VectorLaws.{Is, normalised-is, no-terms}
-use Rattle.walk.specs.Parts.{PartOf, Once, Held as Pool·held}
+use Rattle.walk.specs.Parts.{PartOf, Once, InPool}
 use Rattle.walk.specs.PartsLaws.{vector-hold, vector-once}
 use Rattle.walk.specs.Walk.{Item, Held, nothingHeld, Step, added, after, comeBy, step, Walked, beginBy, onFrom, walkFrom}
 use Rattle.walk.specs.Walk.Walked.{halted, walked}
@@ -46,7 +46,7 @@ record OwnHeld (b h : Held) : Type 0 where
   own : (k : ℕ) → k < count h → Own b (item h k)
   once : (j k : ℕ) → j < k → k < count h → Pair (item h j) (item h k) → ⊥
   pool-once : Once (h .pool)
-  pool-in : (x : Re) → Pool·held (h .pool) x → Pool·held (b .pool) x
+  pool-in : (x : Re) → InPool (h .pool) x → InPool (b .pool) x
 
 module _ (b : Held) (p : Pooled pool b) where
   own-none : OwnHeld b nothingHeld
@@ -69,7 +69,7 @@ module _ (b : Held) (p : Pooled pool b) where
   })
 
   module _ (h : Held) (o : OwnHeld b h) (y : Item) (z : Own b y) where
-    pool-added : (x : Re) → Pool·held (added h y .pool) x → Pool·held (b .pool) x
+    pool-added : (x : Re) → InPool (added h y .pool) x → InPool (b .pool) x
     pool-added x q = elim (vector-hold (h .pool) (y .vector) x .0 q) [
       | inl r ↦ o .pool-in x r
       | inr r ↦ p .parts (stateOf (y .sheet)) (z .state-in) x (subst (PartOf x) (z .vector-is) r)
