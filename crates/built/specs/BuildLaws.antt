@@ -1,31 +1,30 @@
 -- A built table is right: after every text of bytes its label is the one that names the text by the book's rules.
 -- So a cut by a built table is the cut by the textbook: every word longest, under the earliest rule, and stuck exactly.
-use Prim.Native.Nat.{ℕ, zero, suc, _+_, _*_, _<_, _≤_}
+use Prim.Native.Nat.{ℕ, _+_}
 use mathlib.Core.Path.{_≡_, refl, sym, ap, subst, _∙_}
-use mathlib.Core.List.{List, [], _∷_, map}
+use mathlib.Core.List.{List}
 use native.Mathlib.Omega.{arith}
-use lib.ListN.{length, getD, take, drop, length-map, length-take, length-drop, List·getD-map}
+use lib.ListN.{take, drop, length-take, length-drop, List·getD-map}
 use lib.Seq.{getD-take, getD-drop}
 use Rattle.number.specs.declared.Refusal.{Refusal}
-use Rattle.number.specs.Limits.{bytes, states}
 use Rattle.number.specs.Numbers.{Bytes}
 use Rattle.number.specs.Refused.{Outcome}
 use Rattle.number.specs.Refused.Outcome.{gives, refuses}
 use Rattle.meaning.specs.Re.{Re, Text}
-use Rattle.meaning.specs.Rules.{Names, labelFrom, label, deriveBy, start, labelAfter}
-use Rattle.meaning.specs.RulesMean.{names-after, names-one}
+use Rattle.meaning.specs.Rules.{Names, labelFrom, label, labelAfter}
+use Rattle.meaning.specs.RulesMean.{names-after}
 use Rattle.meaning.specs.Words.{Found, FirstWord, reach}
 use Rattle.meaning.specs.WordsMean.{first-alike}
 use Rattle.table.specs.Table.{Table}
-use Rattle.cutting.specs.Steps.{stepIn, labelAt, labelOf, Labels, FirstBy, firstBy}
-use Rattle.cutting.specs.Cut.{Cut, Cuts, cutBy}
+use Rattle.cutting.specs.Steps.{labelAt, labelOf, Labels, FirstBy, firstBy}
+use Rattle.cutting.specs.Cut.{Cuts, cutBy}
 use Rattle.cutting.specs.CutLaws.{first-by, cut-is, cut-alike}
 use Rattle.walk.specs.Walk.{Item, none, Held, Walked, walkFrom}
 use Rattle.walk.specs.Walk.Walked.{halted, walked}
-use Rattle.walk.specs.StepLaws.{item, count}
+use Rattle.walk.specs.StepLaws.{item}
 use Rattle.walk.specs.WalkLaws.{target}
-use Rattle.walk.specs.Explored.{Explored, walk-explores, Arrived, arrived}
-use Rattle.building.specs.Build.{alone, tableOf, builtOf, buildRules}
+use Rattle.walk.specs.Explored.{walk-explores, arrived}
+use Rattle.built.specs.Build.{alone, tableOf, builtOf, buildRules}
 
 -- the label of item j, read off the labels
 pub label-item : (h : Held) (js : List ℕ) (j : ℕ) → labelAt (tableOf h js) j ≡ label (item h j .vector)

@@ -1,4 +1,4 @@
--- `building::fill_labels` meets its contract: the labels of the items below the next one stand at the front of the area.
+-- `filled::fill_labels` meets its contract: the labels of the items below the next one stand at the front of the area.
 -- Assumes nothing.
 use Prim.Native.Nat.{_-_, _≤_}
 use native.Mathlib.Omega.{arith}
@@ -7,10 +7,10 @@ use borrow.Author.Needs.{needs}
 use lib.ListN.{length}
 use Rattle.number.specs.Lists.{written}
 use Rattle.vector.specs.Memory.{itemsOf}
-use Rattle.building.specs.Fill.{labelsOf}
-use Rattle.building.specs.FillLaws.{labelled-first, labelled-within, labelled-reads, labelled-small, labelled-more}
-use Rattle.building.proofs.fill_labels.Statement.{statement}
-use Rattle.building.proofs.fill_labels.Tie as tie
+use Rattle.filled.specs.Tabled.{labelsOf}
+use Rattle.filled.specs.TabledLaws.{labelled-first, labelled-within, labelled-reads, labelled-small, labelled-more}
+use Rattle.filled.proofs.fill_labels.Statement.{statement}
+use Rattle.filled.proofs.fill_labels.Tie as tie
 
 abbrev Inv-loop : tie.InvT-loop
 Inv-loop cells n count labels₀ i₀ labels i =

@@ -1,9 +1,9 @@
--- `building::fill_table` meets its contract: a refused walk is the table's refusal; else its rows and the items' labels are the table.
+-- `filled::fill_table` meets its contract: a refused walk is the table's refusal; else its rows and the items' labels are the table.
 -- Assumes nothing.
-use Rattle.building.specs.TableLaws.{table-stop, table-labelled, table-done}
+use Rattle.filled.specs.TabledLaws.{table-stop, table-labelled, table-done}
 use borrow.Author.Needs.{needs}
-use Rattle.building.proofs.fill_table.Statement.{statement}
-use Rattle.building.proofs.fill_table.Tie as tie
+use Rattle.filled.proofs.fill_table.Statement.{statement}
+use Rattle.filled.proofs.fill_table.Tie as tie
 
 fill-rows-requires : tie.Need-fill-rows-requires
 fill-rows-requires c κs = search needs

@@ -1,4 +1,4 @@
--- `building::fill_rows` meets its contract: the rows of the items below the next one stand in the targets.
+-- `filled::fill_rows` meets its contract: the rows of the items below the next one stand in the targets.
 -- A refused row ends the walk; where no item remains it is whole. Assumes nothing.
 use Prim.Native.Nat.{_-_}
 use native.Mathlib.Omega.{arith}
@@ -8,12 +8,12 @@ use lib.ListN.{length}
 use Rattle.number.specs.Limits.{states}
 use Rattle.walk.specs.Walk.{rows}
 use Rattle.vector.specs.Memory.{heldOf}
-use Rattle.building.specs.Build.{alone}
-use Rattle.building.specs.FillLaws.{Rowing, rowing-first, rowing-fillable, rowing-stop, rowing-more, rowing-end}
+use Rattle.built.specs.Build.{alone}
+use Rattle.filled.specs.TabledLaws.{Rowing, rowing-first, rowing-fillable, rowing-stop, rowing-more, rowing-end}
 use Rattle.pool.specs.Index.{Indexed}
 use Rattle.steps.specs.CallLaws.{followed}
-use Rattle.building.proofs.fill_rows.Statement.{statement}
-use Rattle.building.proofs.fill_rows.Tie as tie
+use Rattle.filled.proofs.fill_rows.Statement.{statement}
+use Rattle.filled.proofs.fill_rows.Tie as tie
 
 abbrev Inv-loop : tie.InvT-loop
 Inv-loop index₀ cells₀ top count n targets₀ next₀ held₀ i₀ index cells targets next held i =

@@ -1,4 +1,4 @@
--- Laws from rows and labels to a table, from vector 0 to the table of a book's rules, and from a book to what build leaves.
+-- Laws from vector 0 to the table of a book's rules, and from a book to what build leaves.
 -- One law for each return of the code.
 use Prim.Native.Nat.{ℕ, _+_, _*_, _-_, _^_, _<_, _≤_}
 use native.Mathlib.Nat.{sub-zero}
@@ -6,7 +6,7 @@ use native.Mathlib.Omega.{arith}
 use mathlib.Core.Path.{_≡_, refl, sym, ap, subst, _∙_}
 use mathlib.Core.List.{List, [], append-nil}
 use borrow.Author.Tests.{lt-ltb, le-ltb}
-use lib.ListN.{length, take, replicate, length-map, length-replicate, drop-of-length-le}
+use lib.ListN.{length, take, replicate, length-replicate, drop-of-length-le}
 use lib.Seq.{length-take-le}
 use Rattle.number.specs.declared.Refusal.{Refusal}
 use Rattle.number.specs.declared.Refusal.the-variants.{Room, Long}
@@ -14,7 +14,6 @@ use Rattle.number.specs.Limits.{bytes, states, tableCells}
 use Rattle.number.specs.Lists.{written}
 use Rattle.number.specs.Refused.{Outcome}
 use Rattle.number.specs.Refused.Outcome.{gives, refuses}
-use Rattle.meaning.specs.Rules.{label}
 use Rattle.book.specs.declared.Checked.{Checked}
 use Rattle.book.specs.declared.Checked.the-variants.{Counts, Refused as NotChecked}
 use Rattle.book.specs.Calls.{checked, checkOf}
@@ -26,19 +25,19 @@ use Rattle.table.specs.Table.{Table}
 use Rattle.table.specs.Calls.{padded, Filled, filledWith}
 use Rattle.walk.specs.Vectors.{normalised}
 use Rattle.walk.specs.Vectors.Vector.{TooLong}
-use Rattle.walk.specs.Walk.{Item, rows, onFrom, beginBy, walkFrom}
+use Rattle.walk.specs.Walk.{rows, onFrom, beginBy, walkFrom}
 use Rattle.vector.specs.Layout.{workLength}
-use Rattle.vector.specs.Memory.{itemsOf, heldOf}
-use Rattle.vector.specs.MemoryLaws.{items-length}
+use Rattle.vector.specs.Memory.{heldOf}
 use Rattle.steps.specs.declared.Stepped.{Stepped}
 use Rattle.steps.specs.declared.Stepped.the-variants.{Reached, Stopped}
 use Rattle.steps.specs.Step.{First, Begins}
-use Rattle.steps.specs.CallLaws.{went, halts, kept-reads}
+use Rattle.steps.specs.CallLaws.{went, halts}
 use Rattle.start.specs.Start.{rulesIn, Opened, First as Started}
-use Rattle.building.specs.Build.{alone, tableOf, builtOf, buildRules}
-use Rattle.building.specs.Calls.{buildRead, buildBook, filledBy, Building, buildOf}
-use Rattle.building.specs.Fill.{Fillable, Laid, RowsComes, RowsFilled, Labelled, labelsOf, Fronted, TableComes, Tabled, Roomy, Builds}
-use Rattle.building.specs.FillLaws.{laid-front}
+use Rattle.built.specs.Build.{alone, builtOf, buildRules}
+use Rattle.built.specs.Calls.{buildRead, buildBook, filledBy, Building, buildOf}
+use Rattle.row.specs.Fill.{Fillable}
+use Rattle.filled.specs.Tabled.{Fronted, TableComes, Tabled}
+use Rattle.building.specs.Promises.{Roomy, Builds}
 
 -- an outcome by another name
 pub tabled-as : {o : Outcome Table} {l t : List ℕ} {r : Counted} (p : Outcome Table) → Tabled o l t r → o ≡ p → Tabled p l t r
@@ -47,41 +46,6 @@ tabled-as {o} {l} {t} {r} p x e = subst (λ (q : Outcome Table). Tabled q l t r)
 -- a table was answered
 pub fronted : {o : Outcome Table} {l t : List ℕ} {r : Counted} {m : ℕ} → Tabled o l t r → r ≡ States m → Fronted o l t m
 fronted {o} {l} {t} x e = subst (TableComes o l t) e (x .comes)
-
--- ---- from rows and labels to a table
-
-module _ {s : List ℕ} {n top count : ℕ} {t s₁ t₁ : List ℕ} {r : Stepped} (x : RowsFilled s n top count t s₁ t₁ r) where
-  pub table-stop : {q : Refusal} (l : List ℕ) → r ≡ Stopped q → Tabled (builtOf (rows alone states 0 (heldOf s n top count))) l t₁ (Refused q)
-  table-stop {q} l e =
-      record { comes = ap builtOf (subst (RowsComes s₁ n count (rows alone states 0 (heldOf s n top count)) t t₁) e (x .comes)) }
-
-  module _ {top₁ count₁ j : ℕ} (e : r ≡ Reached top₁ count₁ j) where
-    rows-laid : Laid s₁ n count top₁ count₁ (rows alone states 0 (heldOf s n top count)) t 0 t₁ (count₁ * bytes)
-    rows-laid = subst (RowsComes s₁ n count (rows alone states 0 (heldOf s n top count)) t t₁) e (x .comes)
-
-    pub table-labelled : {l : List ℕ} → states ≤ length l → Labelled s₁ n count₁ l
-    table-labelled room =
-        let g = rows-laid in
-        record { long = g .kept .long; few = g .few; reads = λ k h. kept-reads k (g .kept) h; room = room }
-
-    pub table-done : (l : List ℕ) {l₁ : List ℕ} → l₁ ≡ written l 0 (labelsOf (itemsOf s₁ n count₁))
-        → Tabled (builtOf (rows alone states 0 (heldOf s n top count))) l₁ t₁ (States count₁)
-    table-done l {l₁} y =
-        let g = rows-laid in
-        let h = heldOf s₁ n top₁ count₁ in
-        record {
-          comes =
-              record {
-                table = tableOf h (g .numbers);
-                built = ap builtOf (g .walks);
-                many = items-length s₁ n count₁;
-                few = g .few;
-                labels =
-                    laid-front l l₁ (labelsOf (itemsOf s₁ n count₁)) count₁ y
-                    (length-map (itemsOf s₁ n count₁) (λ (z : Item). label (z .vector)) ∙ items-length s₁ n count₁);
-                targets = laid-front t t₁ (g .numbers) (count₁ * bytes) (g .laid) (omega (arith, g .ends));
-              };
-        }
 
 -- ---- from vector 0 to the table of the rules
 

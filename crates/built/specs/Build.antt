@@ -3,7 +3,6 @@
 use Prim.Native.Nat.{ℕ}
 use mathlib.Core.List.{List, map}
 use lib.ListN.{length}
-use Rattle.number.specs.declared.Refusal.{Refusal}
 use Rattle.number.specs.declared.Refusal.the-variants.{States}
 use Rattle.number.specs.Limits.{states, pool}
 use Rattle.number.specs.Refused.{Outcome}
@@ -11,7 +10,7 @@ use Rattle.number.specs.Refused.Outcome.{gives, refuses}
 use Rattle.meaning.specs.Re.{Re}
 use Rattle.meaning.specs.Rules.{label}
 use Rattle.table.specs.Table.{Table}
-use Rattle.walk.specs.Walk.{Item, Held, Way, Walked, walkFrom}
+use Rattle.walk.specs.Walk.{Held, Way, Walked, walkFrom}
 use Rattle.walk.specs.Walk.Walked.{halted, walked}
 
 -- beside one state that leads to itself, with room for so many states and terms

@@ -1,60 +1,45 @@
--- The theorems of building that are bought, together; each is proved in the file that its proof names.
--- To believe them, read the definitions: Build and Calls here, Walk, Vectors and Parts in walk, and those that they stand on.
+-- The steps to the theorems of Main: a table built from a book is right, a call that succeeds leaves such a table, and wider limits change no answer.
+-- What is proved of rules stands in BuildLaws and BuiltFormed, and of a walk with other limits in walk's WiderLaws; here it comes to books and to memory.
 use Prim.Native.Nat.{ℕ, _*_, _-_, _≤_}
 use mathlib.Core.Path.{_≡_, refl, sym, ap, subst, _∙_}
 use mathlib.Core.Bool.{Bool, true, false, cond, _||_}
-use mathlib.Core.List.{List, map, _++_}
+use mathlib.Core.List.{List}
 use native.Mathlib.Omega.{arith}
 use lib.Dec.{ltb}
-use lib.ListN.{length, take, replicate, length-map}
+use lib.ListN.{length, replicate, length-map}
 use lib.Seq.{take-at}
 use Rattle.number.specs.declared.Refusal.{Refusal}
 use Rattle.number.specs.declared.Refusal.the-variants.{Long, Room}
-use Rattle.number.specs.Limits.{rules, bytes, states, tableCells, pool}
-use Rattle.number.specs.Numbers.{Bytes}
+use Rattle.number.specs.Limits.{rules, bytes, states, pool}
 use Rattle.number.specs.Refused.{Answer, Outcome}
 use Rattle.number.specs.Refused.Answer.{got, refused}
 use Rattle.number.specs.Refused.Outcome.{gives, refuses}
-use Rattle.meaning.specs.Re.{Re, Text}
-use Rattle.meaning.specs.Rules.{Names}
-use Rattle.meaning.specs.Words.{FirstWord}
+use Rattle.meaning.specs.Re.{Re}
 use Rattle.book.specs.Book.{Book}
 use Rattle.book.specs.Reads.{readBook}
 use Rattle.book.specs.Expression.{expression, meant}
 use Rattle.book.specs.ReadLaws.{book-valid}
-use Rattle.table.specs.Table.{Table, lent, wellFormed}
-use Rattle.table.specs.Calls.{Filled, padded, cramped, filledWith, cleared}
+use Rattle.table.specs.Table.{Table, lent}
+use Rattle.table.specs.Calls.{padded, cramped, filledWith}
 use Rattle.table.specs.Formed.{Formed}
 use Rattle.table.specs.SheetFormed.{formed-well}
-use Rattle.table.specs.Sheet.{readSheet, writeSheet}
 use Rattle.table.specs.SheetLaws.{sheet-read-back}
-use Rattle.cutting.specs.Steps.{labelOf, firstBy}
-use Rattle.cutting.specs.Cut.{Cut, Cuts, cutBy}
 use Rattle.vector.specs.Layout.{workLength}
 use Rattle.walk.specs.WiderLaws.{wider-gives, wider-refuses, long-stays}
-use Rattle.building.specs.Build.{aloneTo, builtOf, buildRulesTo, buildRules}
-use Rattle.building.specs.Calls.{buildRead, buildBook, filledBy, Building, buildOf}
-use Rattle.building.specs.BuildLaws.{build-names, build-cuts}
-use Rattle.building.specs.BuiltFormed.{built-formed}
-use Rattle.building.specs.Sample.{w-labels}
+use Rattle.built.specs.Build.{aloneTo, builtOf, buildRulesTo, buildRules}
+use Rattle.built.specs.Calls.{buildRead, buildBook, filledBy, Building, buildOf}
+use Rattle.built.specs.Bought.{Right, Left}
+use Rattle.built.specs.BuildLaws.{build-names, build-cuts}
+use Rattle.built.specs.BuiltFormed.{built-formed}
 
--- a table that was built from a book: what is true of it
-pub record Right (b : Book) (t : Table) : Type 0 where
-  -- after every text of bytes its label is the one that names the text by the book's rules
-  pub names : (w : Text) → Bytes w → Names (meant b) w (labelOf t w)
-  -- cutting by it is cutting by the textbook: longest words, earliest rules, stuck exactly where no non-empty prefix matches
-  pub cuts : (room at : ℕ) (text : Text) → Bytes text → Cuts (FirstWord (meant b)) room at text (cutBy (firstBy t) room at text)
-  -- it is well formed, and its sheet reads back to it
-  pub formed : Formed t
-  pub sheet : readSheet (writeSheet t) ≡ got t (length (writeSheet t))
+-- ---- a book's table
 
 -- a book that is read has at most as many rules as a label can name
 few-rules : (file : List ℕ) (b : Book) (after : ℕ) → readBook file ≡ got b after → length (meant b) ≤ rules
 few-rules file b after e = omega (arith, length-map (b .rules) expression, book-valid file b after e .0 .few)
 
--- the theorem, of the definitions
-pub the-build : (file : List ℕ) (b : Book) (after : ℕ) (t : Table) → readBook file ≡ got b after → buildBook file ≡ gives t → Right b t
-the-build file b after t e d =
+pub build-right : (file : List ℕ) (b : Book) (after : ℕ) (t : Table) → readBook file ≡ got b after → buildBook file ≡ gives t → Right b t
+build-right file b after t e d =
     let m : buildRules (meant b) ≡ gives t = sym (ap buildRead e) ∙ d in
     let f = built-formed (meant b) t (few-rules file b after e) m in
     record {
@@ -64,23 +49,7 @@ the-build file b after t e d =
       sheet = sheet-read-back t f;
     }
 
--- the build's limits and the areas that it asks for, as numbers: told a second time, so that a slip in Limits or in the layout is seen
-pub the-areas : (states ≡ 255) × (pool ≡ 2048) × (tableCells ≡ 65280) × (workLength ≡ 63011) × (workLength ≤ 65536)
-the-areas = (refl, refl, refl, refl, omega arith)
-
--- wider limits take nothing back. What was built with fewer states or terms allowed is built with ours, so that its sheet keeps its bytes;
--- and what was too long is too long at the same place
-pub record Wider (most terms : ℕ) (rs : List Re) : Type 0 where
-  pub built : (t : Table) → buildRulesTo most terms rs ≡ gives t → buildRules rs ≡ gives t
-  pub long : (at : ℕ) → buildRulesTo most terms rs ≡ refuses (Long at) → buildRules rs ≡ refuses (Long at)
-
-pub the-wider-build : (most terms : ℕ) → most ≤ states → terms ≤ pool → (rs : List Re) → Wider most terms rs
-unfolding buildRules
-the-wider-build most terms less fewer rs =
-    record {
-      built = λ t. wider-gives (aloneTo most terms) states pool less fewer builtOf (λ r. refl) rs t;
-      long = λ at. wider-refuses (aloneTo most terms) states pool less fewer builtOf (λ r. refl) rs (Long at) (long-stays (aloneTo most terms) at (λ p e. omega arith));
-    }
+-- ---- what a call leaves
 
 -- the table that stands in an area, with the rest of the area 0
 lent-filled : (t : Table) (n m : ℕ) → Formed t → lent (t .count) (padded n (t .labels)) (padded m (t .targets)) ≡ t
@@ -88,14 +57,6 @@ lent-filled t n m f =
     let p = take-at (t .labels) (replicate (n - length (t .labels)) 0) (t .count) (f .labelled) in
     let q = take-at (t .targets) (replicate (m - length (t .targets)) 0) (t .count * bytes) (f .filled) in
     λ i. record { count = t .count; labels = p i; targets = q i }
-
--- what a call that succeeds has left in memory
-pub record Left (file : List ℕ) (s : ℕ) (labels targets : List ℕ) : Type 0 where
-  pub book : Book
-  pub after : ℕ
-  pub read : readBook file ≡ got book after
-  pub well-formed : wellFormed s labels targets ≡ true
-  pub right : Right book (lent s labels targets)
 
 gives-count : {n m : ℕ} → _≡_ {A = Outcome ℕ} (gives n) (gives m) → n ≡ m
 gives-count e = cc
@@ -113,7 +74,7 @@ module _ (file labels targets : List ℕ) where
           → Left file s (filledWith labels targets t .labels) (filledWith labels targets t .targets)
       go (refused r) p q = absurd (let z : _≡_ {A = ℕ} 0 1 = cc in omega arith)
       go (got b after) p q =
-          let m = the-build file b after t p (ap buildRead p ∙ q) in
+          let m = build-right file b after t p (ap buildRead p ∙ q) in
           let l = lent-filled t (length labels) (length targets) (m .formed) in
           let n : t .count ≡ s = gives-count e in
           let u : lent s (padded (length labels) (t .labels)) (padded (length targets) (t .targets)) ≡ t =
@@ -126,10 +87,9 @@ module _ (file labels targets : List ℕ) where
             right = subst (Right b) (sym u) m;
           }
 
-  -- the theorem, of what the call leaves: the table in memory is right for the book
-  pub the-call : (work : List ℕ) (s : ℕ) → buildOf file labels targets work .table .answer ≡ gives s
+  pub call-left : (work : List ℕ) (s : ℕ) → buildOf file labels targets work .table .answer ≡ gives s
       → Left file s (buildOf file labels targets work .table .labels) (buildOf file labels targets work .table .targets)
-  the-call work s e = go (cramped labels targets || ltb (length work) workLength) e
+  call-left work s e = go (cramped labels targets || ltb (length work) workLength) e
     where
       ofTest : Bool → Building
       ofTest b = cond b (record { table = record { answer = refuses Room; labels = labels; targets = targets }; work = work })
@@ -138,3 +98,15 @@ module _ (file labels targets : List ℕ) where
       go : (b : Bool) → ofTest b .table .answer ≡ gives s → Left file s (ofTest b .table .labels) (ofTest b .table .targets)
       go true d = absurd (no-count d)
       go false d = left-filled s (buildBook file) refl d
+
+-- ---- wider limits
+
+module _ (most terms : ℕ) (less : most ≤ states) (fewer : terms ≤ pool) (rs : List Re) where
+  pub wider-built : (t : Table) → buildRulesTo most terms rs ≡ gives t → buildRules rs ≡ gives t
+  unfolding buildRules
+  wider-built t = wider-gives (aloneTo most terms) states pool less fewer builtOf (λ r. refl) rs t
+
+  pub wider-long : (at : ℕ) → buildRulesTo most terms rs ≡ refuses (Long at) → buildRules rs ≡ refuses (Long at)
+  unfolding buildRules
+  wider-long at =
+      wider-refuses (aloneTo most terms) states pool less fewer builtOf (λ r. refl) rs (Long at) (long-stays (aloneTo most terms) at (λ p e. omega arith))

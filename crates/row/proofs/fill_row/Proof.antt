@@ -1,4 +1,4 @@
--- `building::fill_row` meets its contract: the bytes below the next one are passed, and their numbers stand in the item's row.
+-- `row::fill_row` meets its contract: the bytes below the next one are passed, and their numbers stand in the item's row.
 -- A refused step ends the row; past the last byte the row is whole. Assumes nothing.
 use Prim.Native.Nat.{_-_}
 use native.Mathlib.Omega.{arith}
@@ -8,8 +8,8 @@ use lib.ListN.{length}
 use Rattle.number.specs.Limits.{bytes}
 use Rattle.walk.specs.Walk.{row}
 use Rattle.vector.specs.Memory.{heldOf}
-use Rattle.building.specs.Build.{alone}
-use Rattle.building.specs.FillLaws.{
+use Rattle.built.specs.Build.{alone}
+use Rattle.row.specs.FillLaws.{
   Filling,
   filling-first,
   filling-within,
@@ -24,8 +24,8 @@ use Rattle.building.specs.FillLaws.{
 }
 use Rattle.pool.specs.Index.{Indexed}
 use Rattle.steps.specs.CallLaws.{followed}
-use Rattle.building.proofs.fill_row.Statement.{statement}
-use Rattle.building.proofs.fill_row.Tie as tie
+use Rattle.row.proofs.fill_row.Statement.{statement}
+use Rattle.row.proofs.fill_row.Tie as tie
 
 abbrev Inv-loop : tie.InvT-loop
 Inv-loop index₀ cells₀ top count n i targets₀ base next₀ held₀ byte₀ index cells targets next held byte =

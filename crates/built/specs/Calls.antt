@@ -1,11 +1,10 @@
 -- What build answers and leaves in lent memory, for every input: its promise cites this.
 -- Room first, with nothing changed; then the book's refusals, then the walk's; the work area is all 0 afterwards.
 use Prim.Native.Nat.{ℕ}
-use mathlib.Core.Bool.{Bool, true, false, cond, _||_}
+use mathlib.Core.Bool.{cond, _||_}
 use mathlib.Core.List.{List}
 use lib.Dec.{ltb}
 use lib.ListN.{length, replicate}
-use Rattle.number.specs.declared.Refusal.{Refusal}
 use Rattle.number.specs.declared.Refusal.the-variants.{Room}
 use Rattle.number.specs.Refused.{Answer, Outcome}
 use Rattle.number.specs.Refused.Answer.{got, refused}
@@ -16,7 +15,7 @@ use Rattle.book.specs.Expression.{meant}
 use Rattle.table.specs.Table.{Table}
 use Rattle.table.specs.Calls.{Filled, cramped, filledWith, cleared, untouched}
 use Rattle.vector.specs.Layout.{workLength}
-use Rattle.building.specs.Build.{buildRules}
+use Rattle.built.specs.Build.{buildRules}
 
 -- the table of a book, or why there is none
 abbrev pub buildRead : Answer Book → Outcome Table

@@ -16,7 +16,7 @@ use Rattle.walk.specs.Vectors.{derived, normalised, sameVector}
 use Rattle.walk.specs.Parts.{holds, withTerm, withParts, withVector}
 use Rattle.walk.specs.Walk.{numberIn, come, step, row, rows, walkFrom}
 use Rattle.table.specs.Table.{Table}
-use Rattle.building.specs.Build.{buildRules}
+use Rattle.built.specs.Build.{buildRules}
 
 abbrev labelsOf : Outcome Table → List ℕ
 labelsOf (gives t) = t .labels

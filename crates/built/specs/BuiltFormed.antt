@@ -1,13 +1,12 @@
 -- A built table is well formed, so its sheet reads back to it: what the build leaves can be cut by, written and compared.
 -- Labels are at most the number of rules, and each byte leads to a state that was found.
-use Prim.Native.Nat.{ℕ, zero, suc, _+_, _*_, _/_, _%_, _<_, _≤_}
-use mathlib.Core.Path.{_≡_, refl, sym, ap, subst, _∙_}
+use Prim.Native.Nat.{ℕ, suc, _+_, _*_, _/_, _%_, _<_, _≤_}
+use mathlib.Core.Path.{_≡_, refl, ap, _∙_}
 use mathlib.Core.Bool.{Bool, true, false, cond}
-use mathlib.Core.List.{List, [], _∷_, map}
+use mathlib.Core.List.{List, [], _∷_}
 use native.Mathlib.Omega.{arith}
 use lib.ListN.{length, getD, length-map}
 use Rattle.number.specs.Limits.{bytes, rules}
-use Rattle.number.specs.Refused.{Outcome}
 use Rattle.number.specs.Refused.Outcome.{gives}
 use Rattle.meaning.specs.Re.{Re, Text}
 use Rattle.meaning.specs.Normal.{normal}
@@ -19,8 +18,8 @@ use Rattle.walk.specs.Walk.{Item, Held}
 use Rattle.walk.specs.StepLaws.{item, count}
 use Rattle.walk.specs.WalkLaws.{target}
 use Rattle.walk.specs.Explored.{Explored, walk-explores}
-use Rattle.building.specs.Build.{alone, tableOf, buildRules}
-use Rattle.building.specs.BuildLaws.{Built, built, label-item}
+use Rattle.built.specs.Build.{alone, tableOf, buildRules}
+use Rattle.built.specs.BuildLaws.{built, label-item}
 
 -- a label is at most the number of rules
 pub label-most : (i : ℕ) (rs : List Re) → labelFrom i rs ≤ i + length rs
