@@ -1,4 +1,4 @@
--- Laws of the answers, one for each return of the code, from the walk up to the public call.
+-- Laws of the answers, one for each return of the code, from the walk's end up to the public call.
 -- What the walk found is what the book's rules come to beside the table; Room, Loaded and the book's refusals come before.
 use Prim.Native.Nat.{ℕ, _+_, _*_, _-_, _<_, _≤_}
 use mathlib.Core.Path.{_≡_, refl, sym, ap, subst, _∙_}
@@ -9,79 +9,32 @@ use native.Mathlib.Nat.{sub-zero}
 use borrow.Author.Tests.{lt-ltb, le-ltb}
 use lib.ListN.{length, take, drop, replicate, length-replicate, drop-of-length-le}
 use Rattle.number.specs.declared.Refusal.{Refusal}
-use Rattle.number.specs.declared.Refusal.the-variants.{Long, Room, Loaded}
+use Rattle.number.specs.declared.Refusal.the-variants.{Room, Loaded}
 use Rattle.number.specs.Limits.{bytes, shownText, workCells}
 use Rattle.number.specs.Refused.{Outcome}
 use Rattle.number.specs.Refused.Outcome.{gives, refuses}
 use Rattle.number.specs.Lists.{written}
-use Rattle.meaning.specs.Re.{Re}
 use Rattle.book.specs.Reads.{readBook}
 use Rattle.book.specs.Calls.{sizeOf}
 use Rattle.book.specs.PlaceLaws.{checked-counts, checked-refused}
 use Rattle.table.specs.Table.{Table, lent, wellFormed}
 use Rattle.table.specs.Formed.{Formed}
 use Rattle.table.specs.SheetFormed.{well-formed}
-use Rattle.walk.specs.Vectors.{Vector, normalised}
-use Rattle.walk.specs.Vectors.Vector.{TooLong, Terms}
-use Rattle.walk.specs.Walk.{nothingHeld, Step, come, Walked, rows, beginBy, onFrom, walkFrom}
+use Rattle.walk.specs.Walk.{rows, walkFrom}
 use Rattle.walk.specs.Walk.Walked.{halted}
-use Rattle.vector.specs.Layout.{items, workLength}
-use Rattle.vector.specs.Vectors.{vectorOf}
-use Rattle.vector.specs.Memory.{heldOf}
+use Rattle.vector.specs.Layout.{workLength}
 use Rattle.vector.specs.MemoryLaws.{reads}
 use Rattle.steps.specs.declared.Stepped.{Stepped}
 use Rattle.steps.specs.declared.Stepped.the-variants.{Reached, Stopped}
-use Rattle.steps.specs.Step.{First, firstItem, Begins, Steps, Comes, Went}
-use Rattle.start.specs.Start.{rulesIn, First as Started}
-use Rattle.comparing.specs.declared.Compared.{Compared}
-use Rattle.comparing.specs.declared.Compared.the-variants.{Refused}
-use Rattle.comparing.specs.Compare.{Verdict, comparedBy, compareRules}
-use Rattle.comparing.specs.Compare.Verdict.{Same, Differs}
-use Rattle.comparing.specs.Calls.{compareRead, compareBook, Comparison, told, compareOf}
-use Rattle.comparing.specs.Promises.{byTargets, HasRow, Beside, Walks, Ends, Legible, Traced, Blank, Answers, Shows, Comparable, Rules, loadedOf, Compares}
-use Rattle.comparing.specs.BesideLaws.{beside-first}
-
--- ---- the whole walk
-
-walk-by : (targets : List ℕ) (rs : List Re) (v : Vector) → normalised rs ≡ v
-    → walkFrom (byTargets targets) rs ≡ onFrom (byTargets targets) (beginBy (byTargets targets) v)
-unfolding walkFrom
-walk-by targets rs v e = ap (λ (u : Vector). onFrom (byTargets targets) (beginBy (byTargets targets) u)) e
-
-pub walk-long : (targets file : List ℕ) → normalised (rulesIn file) ≡ TooLong → walkFrom (byTargets targets) (rulesIn file) ≡ halted (Long 0)
-walk-long targets file e = walk-by targets (rulesIn file) TooLong e
-
--- vector 0 is there to be held
-pub walk-first : {file : List ℕ} {n : ℕ} {s : List ℕ} {top : ℕ} {v : List ℕ} → Started file n s top v → First s n top v
-walk-first f = record { kept = f .kept; numbers = f .numbers; holds = f .holds }
-
-module _ (targets file : List ℕ) (n : ℕ) (s : List ℕ) (top₀ : ℕ) (v : List ℕ) (f : Started file n s top₀ v) (s₁ : List ℕ) (x : Stepped)
-    (begins : Begins s n v s₁ x) where
-  abbrev first : Step
-  first = come (byTargets targets) 0 nothingHeld (firstItem (vectorOf s n v))
-
-  begun : Steps s n 0 items s₁ first x
-  begun = begins .begins (byTargets targets) (omega arith) refl
-
-  as-first : walkFrom (byTargets targets) (rulesIn file) ≡ onFrom (byTargets targets) first
-  as-first = walk-by targets (rulesIn file) (Terms (vectorOf s n v)) (f .terms)
-
-  pub walk-stops : (q : Refusal) → x ≡ Stopped q → Ends n targets s₁ (walkFrom (byTargets targets) (rulesIn file)) x
-  walk-stops q e =
-      subst (Ends n targets s₁ (walkFrom (byTargets targets) (rulesIn file))) (sym e)
-      (as-first ∙ ap (onFrom (byTargets targets)) (subst (Comes s₁ n 0 items first) e (begun .comes)))
-
-  module _ (top count j : ℕ) (e : x ≡ Reached top count j) where
-    went : Went s₁ n 0 items top count j first
-    went = subst (Comes s₁ n 0 items first) e (begun .comes)
-
-    pub walk-beside : HasRow targets 0 → Beside s₁ n top count targets
-    walk-beside some = beside-first targets (vectorOf s n v) s₁ n top count j some went
-
-    pub walk-ends : (s₂ : List ℕ) (y : Stepped) → Ends n targets s₂ (rows (byTargets targets) items 0 (heldOf s₁ n top count)) y
-        → Ends n targets s₂ (walkFrom (byTargets targets) (rulesIn file)) y
-    walk-ends s₂ y r =
-        subst (λ (w : Walked). Ends n targets s₂ w y) (sym (as-first ∙ ap (onFrom (byTargets targets)) (went .goes))) r
+use Rattle.start.specs.Start.{rulesIn}
+use Rattle.verdict.specs.declared.Compared.{Compared}
+use Rattle.verdict.specs.declared.Compared.the-variants.{Refused}
+use Rattle.verdict.specs.Compare.{Verdict, comparedBy, compareRules}
+use Rattle.verdict.specs.Compare.Verdict.{Same, Differs}
+use Rattle.verdict.specs.Calls.{compareRead, compareBook, Comparison, answeredIn, compareOf}
+use Rattle.pairs.specs.Promises.{byTargets, Walks, Ends}
+use Rattle.shown.specs.Promises.{Legible, Traced, Blank, Answers, Shows}
+use Rattle.comparing.specs.Promises.{Comparable, Rules, loadedOf, Compares}
 
 -- ---- a book's rules against a table's labels and targets
 
@@ -182,20 +135,20 @@ blank-filled area area₁ h e =
     whole : {w : List ℕ} → length w ≡ length area → w ++ drop (0 + length w) area ≡ w
     whole {w} f = let over : length area ≤ 0 + length w = omega arith in ap (λ (l : List ℕ). w ++ l) (drop-of-length-le area over) ∙ append-nil w
 
-told-answer : (area area₁ work : List ℕ) (o : Outcome Verdict) → told area₁ [] o .answer ≡ told area work o .answer
-told-answer area area₁ work (gives Same) = refl
-told-answer area area₁ work (gives (Differs text b s)) = refl
-told-answer area area₁ work (refuses r) = refl
+answered-answer : (area area₁ work : List ℕ) (o : Outcome Verdict) → answeredIn area₁ [] o .answer ≡ answeredIn area work o .answer
+answered-answer area area₁ work (gives Same) = refl
+answered-answer area area₁ work (gives (Differs text b s)) = refl
+answered-answer area area₁ work (refuses r) = refl
 
-told-text : (area area₁ work : List ℕ) → length area₁ ≡ length area → (o : Outcome Verdict) → told area₁ [] o .text ≡ told area work o .text
-told-text area area₁ work e (gives Same) = rw e refl
-told-text area area₁ work e (gives (Differs text b s)) = rw e refl
-told-text area area₁ work e (refuses r) = rw e refl
+answered-text : (area area₁ work : List ℕ) → length area₁ ≡ length area → (o : Outcome Verdict) → answeredIn area₁ [] o .text ≡ answeredIn area work o .text
+answered-text area area₁ work e (gives Same) = rw e refl
+answered-text area area₁ work e (gives (Differs text b s)) = rw e refl
+answered-text area area₁ work e (refuses r) = rw e refl
 
-told-work : (area work : List ℕ) (o : Outcome Verdict) → told area work o .work ≡ replicate (length work) 0
-told-work area work (gives Same) = refl
-told-work area work (gives (Differs text b s)) = refl
-told-work area work (refuses r) = refl
+answered-work : (area work : List ℕ) (o : Outcome Verdict) → answeredIn area work o .work ≡ replicate (length work) 0
+answered-work area work (gives Same) = refl
+answered-work area work (gives (Differs text b s)) = refl
+answered-work area work (refuses r) = refl
 
 module _ (file : List ℕ) (m : ℕ) (labels targets area work : List ℕ) where
   pub compare-small-area : length area < shownText → Compares file m labels targets area work area work (Refused Room)
@@ -209,12 +162,12 @@ module _ (file : List ℕ) (m : ℕ) (labels targets area work : List ℕ) where
   }
 
   module _ (h : shownText ≤ length area) (k : workLength ≤ length work) where
-    as-told : compareOf file m labels targets area work ≡ told area work (loadedOf file m labels targets)
-    as-told = rw (le-ltb (length area) shownText h, le-ltb (length work) workLength k) (by-cases (wellFormed m labels targets))
+    as-answered : compareOf file m labels targets area work ≡ answeredIn area work (loadedOf file m labels targets)
+    as-answered = rw (le-ltb (length area) shownText h, le-ltb (length work) workLength k) (by-cases (wellFormed m labels targets))
       where
         by-cases : (b : Bool)
-            → cond b (told area work (compareBook file (lent m labels targets))) (told area work (refuses Loaded))
-            ≡ told area work (cond b (compareBook file (lent m labels targets)) (refuses Loaded))
+            → cond b (answeredIn area work (compareBook file (lent m labels targets))) (answeredIn area work (refuses Loaded))
+            ≡ answeredIn area work (cond b (compareBook file (lent m labels targets)) (refuses Loaded))
         by-cases true = refl
         by-cases false = refl
 
@@ -223,7 +176,7 @@ module _ (file : List ℕ) (m : ℕ) (labels targets area work : List ℕ) where
     compare-done area₁ area₂ work₁ work₂ r e a f g =
         let o = loadedOf file m labels targets in
         record {
-          answer = a .answer ∙ told-answer area area₁ work o ∙ ap (λ (c : Comparison). c .answer) (sym as-told);
-          text = a .text ∙ told-text area area₁ work e o ∙ ap (λ (c : Comparison). c .text) (sym as-told);
-          work-after = g ∙ ap (λ (l : ℕ). replicate l 0) f ∙ sym (told-work area work o) ∙ ap (λ (c : Comparison). c .work) (sym as-told);
+          answer = a .answer ∙ answered-answer area area₁ work o ∙ ap (λ (c : Comparison). c .answer) (sym as-answered);
+          text = a .text ∙ answered-text area area₁ work e o ∙ ap (λ (c : Comparison). c .text) (sym as-answered);
+          work-after = g ∙ ap (λ (l : ℕ). replicate l 0) f ∙ sym (answered-work area work o) ∙ ap (λ (c : Comparison). c .work) (sym as-answered);
         }

@@ -11,7 +11,7 @@ use Rattle.term.specs.declared.Term.{Term}
 use Rattle.term.specs.declared.Term.the-variants.{Nothing, Empty, Range, Cat, Alt, Star}
 use Rattle.term.specs.Cells.{nodeOf, grow, term, Below, Sound}
 use Rattle.term.specs.CellLaws.{term-node}
-use Rattle.walk.specs.Parts.{Part, Held, Closed}
+use Rattle.walk.specs.Parts.{Part, InPool, Closed}
 use Rattle.walk.specs.Parts.Part.{whole, cat-left, cat-right, alt-left, alt-right, star-in}
 use Rattle.pool.specs.Pooled.{termsOf}
 use Rattle.pool.specs.PoolLaws.{Stands, held-stands, term-held-below}
@@ -53,7 +53,7 @@ module _ (s : List ℕ) (top : ℕ) where
     grows : (i : ℕ) {r : Re} → i < top → term s i ≡ r → grow (nodeOf (getD s i 0)) (term s) ≡ r
     grows i h e = sym (term-node s top i ok h) ∙ e
 
-    part-held : {x r : Re} → Part x r → (i : ℕ) → i < top → term s i ≡ r → Held (termsOf s top) x
+    part-held : {x r : Re} → Part x r → (i : ℕ) → i < top → term s i ≡ r → InPool (termsOf s top) x
     part-held (whole e) i h d = rw (e, ← d) (term-held-below s top i h)
     part-held (cat-left p) i h d =
         let t = cat-stands (nodeOf (getD s i 0)) (below i h) (grows i h d) .0 in part-held p (t .at) (t .within) (t .is)

@@ -11,7 +11,7 @@ use Rattle.term.specs.declared.Term.the-variants.{Nothing, Empty, Range, Cat, A
 use Rattle.term.specs.Cells.{nodeOf, grow, term, Sound}
 use Rattle.term.specs.Nodes.{kindOf, firstOf, secondOf, Found}
 use Rattle.term.specs.CellLaws.{term-node}
-use Rattle.walk.specs.Parts.{Held}
+use Rattle.walk.specs.Parts.{InPool}
 use Rattle.walk.specs.PartsLaws.{parts-held}
 use Rattle.pool.specs.Pooled.{termsOf, Pooled}
 use Rattle.pool.specs.Index.{Indexed, Put}
@@ -79,7 +79,7 @@ module _ (s : List ℕ) (top i : ℕ) where
   pub put-seen : (x : List ℕ) (r : ℕ) → Pooled s top → Indexed x s top → r < top → Seen s top i r
       → Put s top (termsOf s top) x s r top (term s i) (top + size (term s i))
   put-seen x r p y h l =
-      let held : Held (termsOf s top) (term s i) = rw (l .there h) at (term-held-below s top r h) in
+      let held : InPool (termsOf s top) (term s i) = rw (l .there h) at (term-held-below s top r h) in
       record {
         pool = record {
           sound = p .sound;

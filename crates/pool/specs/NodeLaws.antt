@@ -19,7 +19,7 @@ use Rattle.term.specs.Cells.{nodeOf, cellOf, grow, term, Below, Sound}
 use Rattle.term.specs.Nodes.{kindOf, firstOf, secondOf, Pushed}
 use Rattle.term.specs.ReadLaws.{rank-grow, rebuild, of-kind}
 use Rattle.term.specs.CellLaws.{Same, frame, term-node, node-cell, below-fields}
-use Rattle.walk.specs.Parts.{holds, withTerm, Held}
+use Rattle.walk.specs.Parts.{holds, withTerm, InPool}
 use Rattle.walk.specs.PartsLaws.{term-held, term-new}
 use Rattle.pool.specs.Pooled.{termsOf, Pooled}
 use Rattle.pool.specs.Index.{poolCells, Indexed, chained, After}
@@ -115,7 +115,7 @@ module _ (x s : List ℕ) (top : ℕ) (u : Term) (p : Pooled s top) (i : Indexed
       → After s top (withTerm (termsOf s top) (grow u (term s))) x s r top (grow u (term s)) (top + 1)
   put-old r h l =
       let e = cell-term r h (l .there h) in
-      let held : Held (termsOf s top) (grow u (term s)) = rw e at (term-held-below s top r h) in
+      let held : InPool (termsOf s top) (grow u (term s)) = rw e at (term-held-below s top r h) in
       record {
         pool = record { sound = p .sound; holds = sym (term-held (termsOf s top) (grow u (term s)) held); once = p .once };
         indexed = i;

@@ -14,7 +14,7 @@ use Rattle.meaning.specs.Re.Re.{Nothing}
 use Rattle.meaning.specs.Tests.{clash}
 use Rattle.term.specs.Cells.{term, Sound}
 use Rattle.term.specs.CellLaws.{Same, frame, sound-none, sound-same}
-use Rattle.walk.specs.Parts.{holds, Held, Once}
+use Rattle.walk.specs.Parts.{holds, InPool, Once}
 use Rattle.walk.specs.PartsLaws.{held-front, held-last, held-snoc}
 use Rattle.pool.specs.Pooled.{termsOf, Pool, Pooled}
 
@@ -50,7 +50,7 @@ pub record Stands (s : List ℕ) (top : ℕ) (x : Re) : Type 0 where
   pub within : at < top
   pub is : term s at ≡ x
 
-pub held-stands : (s : List ℕ) (top : ℕ) (x : Re) → Held (termsOf s top) x → Stands s top x
+pub held-stands : (s : List ℕ) (top : ℕ) (x : Re) → InPool (termsOf s top) x → Stands s top x
 unfolding termsOf holds
 held-stands s zero x h = absurd (clash h refl)
 held-stands s (suc top) x h = elim (held-snoc (termsOf s top) (term s top) x h) [
@@ -58,7 +58,7 @@ held-stands s (suc top) x h = elim (held-snoc (termsOf s top) (term s top) x h) 
   | inr e ↦ record { at = top; within = omega arith; is = e }
 ]
 
-pub term-held-below : (s : List ℕ) (top i : ℕ) → i < top → Held (termsOf s top) (term s i)
+pub term-held-below : (s : List ℕ) (top i : ℕ) → i < top → InPool (termsOf s top) (term s i)
 unfolding termsOf
 term-held-below s zero i h = absurd (omega arith)
 term-held-below s (suc top) i h = elim (decLt i top) [

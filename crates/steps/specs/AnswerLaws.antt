@@ -1,5 +1,5 @@
 -- One law for each answer of the code: where its tests led there, the answer is walk's.
--- An item that is held leaves the pool's old top, so what was derived above it is given up; a new one moves the top.
+-- Deriving a vector that is held adds nothing to the pool, so that its top stays; a new item moves the top.
 use Prim.Native.Nat.{ℕ, _+_, _<_, _≤_}
 use mathlib.Core.Path.{_≡_, refl, sym, ap, _∙_}
 use mathlib.Core.List.{List, [], _∷_, _++_}
@@ -19,7 +19,7 @@ use Rattle.pool.specs.PoolLaws.{pool-length, pooled, terms-length, term-held-be
 use Rattle.pool.specs.ClosedLaws.{pool-closed}
 use Rattle.walk.specs.Vectors.{Vector, derived}
 use Rattle.walk.specs.Vectors.Vector.{TooLong, Terms}
-use Rattle.walk.specs.Parts.{withVector, Held as Pool·held}
+use Rattle.walk.specs.Parts.{withVector, InPool}
 use Rattle.walk.specs.PartsLaws.{vector-held}
 use Rattle.walk.specs.Walk.{Item, none, Held, nothingHeld, numberIn, Way, added, come, after, comeBy, step}
 use Rattle.walk.specs.Walk.Step.{reached}
@@ -110,7 +110,7 @@ module _ (s : List ℕ) (n top count limit i place byte sheet : ℕ) (full : Ref
         let low : Numbers n top w = rw (finds .there l .same-numbers) at (kept-spared s n top count s′ (ok .kept) few spared .numbers at l) in
         let whole : n ≤ length w = omega (arith, low .whole, ok .kept .few-rules) in
         let sound : Sound s top = ok .kept .pooled .sound in
-        let held : (k : ℕ) → k < length (vectorOf s′ n w) → Pool·held (termsOf s top) (getD (vectorOf s′ n w) k Nothing) =
+        let held : (k : ℕ) → k < length (vectorOf s′ n w) → InPool (termsOf s top) (getD (vectorOf s′ n w) k Nothing) =
         λ k h.
         let inside : k < n = omega (arith, vector-length s′ n w whole) in
         let old = frame s s′ top (getD w k 0) sound (spared .kept-below) (low .inside k inside) in

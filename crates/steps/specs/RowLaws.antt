@@ -68,10 +68,10 @@ along-stop way i c h js w r a l e =
     sym (a .whole) ∙ ap (λ (m : ℕ). prepend js (row way i m c h)) k ∙ ap (prepend js) (row-stops way i (bytes - suc c) c h r e)
 
 -- a step at byte c is one for the bytes below e too, if they lie before the next edge and lead the sheet to the same state
-pub run : (way : Way) (i c e : ℕ) (h h₁ : Held) (j : ℕ) → i < count h → step way i h c ≡ reached h₁ j → c < e
+run-of-steps : (way : Way) (i c e : ℕ) (h h₁ : Held) (j : ℕ) → i < count h → step way i h c ≡ reached h₁ j → c < e
     → e ≤ nextEdgeAll c (item h i .vector) → ((d : ℕ) → c ≤ d → d < e → way .go (item h i .sheet) d ≡ way .go (item h i .sheet) c)
     → row way i (bytes - c) c h ≡ prepend (replicate (e - c) j) (row way i (bytes - e) e h₁)
-run way i c e h h₁ j l s m n same =
+run-of-steps way i c e h h₁ j l s m n same =
     let k = edge-all-within c (item h i .vector) in
     let p : bytes - c ≡ suc (e - suc c + (bytes - e)) = omega arith in
     let q : suc (e - suc c) ≡ e - c = omega arith in
@@ -88,7 +88,7 @@ along-run way i c e h h₁ j js w a l s m n same = record {
   within = omega (arith, edge-all-within c (item h i .vector));
   passed = omega (arith, length-append js (replicate (e - c) j), length-replicate (e - c) j, a .passed);
   whole =
-      prepend-append js (replicate (e - c) j) (row way i (bytes - e) e h₁) ∙ ap (prepend js) (sym (run way i c e h h₁ j l s m n same)) ∙ a .whole;
+      prepend-append js (replicate (e - c) j) (row way i (bytes - e) e h₁) ∙ ap (prepend js) (sym (run-of-steps way i c e h h₁ j l s m n same)) ∙ a .whole;
 }
 
 -- ---- the same of the work area, with the item read after the step

@@ -31,7 +31,7 @@ use Rattle.derivative.specs.Derives.{derivRoom, derivCells, Derives}
 use Rattle.normal.specs.AnswerLaws.{Got, long-is}
 use Rattle.walk.specs.Vectors.{Vector, front, derived}
 use Rattle.walk.specs.Vectors.Vector.{TooLong, Terms}
-use Rattle.walk.specs.Parts.{withParts, withVector, Part, Held}
+use Rattle.walk.specs.Parts.{withParts, withVector, Part, InPool}
 use Rattle.walk.specs.PartsLaws.{parts-hold}
 use Rattle.walk.specs.Parts.Part.{whole, cat-left, cat-right, alt-left, alt-right, star-in}
 use Rattle.pool.specs.Pooled.{termsOf, Pool}
@@ -98,7 +98,7 @@ part-size (star-in p) = omega (arith, part-size p)
 pub shaped-put : (s : List ℕ) (top : ℕ) (s′ : List ℕ) (top′ : ℕ) (x : Re) → Shaped s top → Pool s′ top′ (withParts (termsOf s top) x) → InShape x
     → short x ≡ true → Shaped s′ top′
 shaped-put s top s′ top′ x old p f b i h =
-    let held : Held (withParts (termsOf s top) x) (term s′ i) = rw (p .holds) at (term-held-below s′ top′ i h) in
+    let held : InPool (withParts (termsOf s top) x) (term s′ i) = rw (p .holds) at (term-held-below s′ top′ i h) in
     elim (parts-hold (termsOf s top) x (term s′ i) .0 held) [
       | inl k ↦ let t = held-stands s top (term s′ i) k in rw (← t .is) (old (t .at) (t .within))
       | inr k ↦ (part-shape k f, le-leb (size (term s′ i)) treeNodes (omega (arith, part-size k, short-size x b)))

@@ -15,7 +15,7 @@ use Rattle.meaning.specs.Re.Re.{Nothing}
 use Rattle.meaning.specs.Tests.{clash, or-true}
 use Rattle.walk.specs.Vectors.{sameTerm}
 use Rattle.walk.specs.VectorLaws.{term-same}
-use Rattle.walk.specs.Parts.{holds, Held, Once}
+use Rattle.walk.specs.Parts.{holds, InPool, Once}
 use Rattle.walk.specs.PartsLaws.{held-at}
 
 -- the first n values of f are below m, and no two of them are equal
@@ -103,19 +103,19 @@ record Stands (p : List Re) (x : Re) (k : ℕ) : Type 0 where
   inside : k < length p
   is : getD p k Nothing ≡ x
 
-stands : (p : List Re) (x : Re) → Held p x → Stands p x (placeIn p x)
+stands : (p : List Re) (x : Re) → InPool p x → Stands p x (placeIn p x)
 unfolding placeIn holds
 stands [] x h = absurd (clash h refl)
 stands (y ∷ ys) x h = go (sameTerm y x) refl (stands ys x)
   where
-    later : sameTerm y x ≡ false → Held ys x
+    later : sameTerm y x ≡ false → InPool ys x
     later e = elim (or-true (sameTerm y x) (holds ys x) h) [ inl f ↦ absurd (clash f e) | inr f ↦ f ]
 
-    go : (b : Bool) → sameTerm y x ≡ b → (Held ys x → Stands ys x (placeIn ys x)) → Stands (y ∷ ys) x (cond b 0 (suc (placeIn ys x)))
+    go : (b : Bool) → sameTerm y x ≡ b → (InPool ys x → Stands ys x (placeIn ys x)) → Stands (y ∷ ys) x (cond b 0 (suc (placeIn ys x)))
     go true e ih = record { inside = omega arith; is = term-same y x e }
     go false e ih = let s = ih (later e) in record { inside = omega (arith, s .inside); is = s .is }
 
-pub pool-most : (p q : List Re) → Once p → ((x : Re) → Held p x → Held q x) → length p ≤ length q
+pub pool-most : (p q : List Re) → Once p → ((x : Re) → InPool p x → InPool q x) → length p ≤ length q
 pool-most p q o f = at-most (length p) (length q) (λ i. placeIn q (getD p i Nothing)) (record {
   below = λ i l. at i l .inside;
   apart = λ i j l k e. o .apart i j l k (sym (at i (omega arith) .is) ∙ ap (λ (m : ℕ). getD q m Nothing) e ∙ at j k .is);

@@ -15,7 +15,7 @@ use Rattle.meaning.specs.Re.{Re}
 use Rattle.meaning.specs.Tests.{clash}
 use Rattle.walk.specs.Vectors.{Vector, derived, normalised}
 use Rattle.walk.specs.Vectors.Vector.{TooLong, Terms}
-use Rattle.walk.specs.Parts.{holds, PartOf, Once, Held as Pool·held}
+use Rattle.walk.specs.Parts.{holds, PartOf, Once, InPool}
 use Rattle.walk.specs.PartsLaws.{vector-hold, vector-once}
 use Rattle.walk.specs.Walk.{Item, Held, nothingHeld, Step, Way, added, after, comeBy, step, Walked, prepend, row, rows, beginBy, onFrom, walkFrom}
 use Rattle.walk.specs.Walk.Step.{stopped, reached}
@@ -95,10 +95,10 @@ walk-keeps way P R each = walk-is way (λ i c. P) R each (λ i h p. p) P (λ i h
 pub record Pooled (terms : ℕ) (h : Held) : Type 0 where
   pub once : Once (h .pool)
   pub low : length (h .pool) ≤ terms
-  pub parts : (k : ℕ) → k < count h → (x : Re) → PartOf x (item h k .vector) → Pool·held (h .pool) x
-  pub only : (x : Re) → Pool·held (h .pool) x → (k : ℕ) × (k < count h) × PartOf x (item h k .vector)
+  pub parts : (k : ℕ) → k < count h → (x : Re) → PartOf x (item h k .vector) → InPool (h .pool) x
+  pub only : (x : Re) → InPool (h .pool) x → (k : ℕ) × (k < count h) × PartOf x (item h k .vector)
 
-pub none-held : (x : Re) → Pool·held [] x → ⊥
+pub none-held : (x : Re) → InPool [] x → ⊥
 unfolding holds
 none-held x q = clash q refl
 
@@ -119,7 +119,7 @@ pooled-added h y p l = record {
   once = vector-once (h .pool) (y .vector) (p .once);
   low = l;
   parts =
-      each-added h y (λ k z. (x : Re) → PartOf x (z .vector) → Pool·held (added h y .pool) x)
+      each-added h y (λ k z. (x : Re) → PartOf x (z .vector) → InPool (added h y .pool) x)
       (λ k m x q. vector-hold (h .pool) (y .vector) x .1 (inl (p .parts k m x q)))
       (λ x q. vector-hold (h .pool) (y .vector) x .1 (inr q));
   only = λ x q. elim (vector-hold (h .pool) (y .vector) x .0 q) [

@@ -48,9 +48,9 @@ pub data PartOf (x : Re) : List Re → Type 0 where
   here : {r : Re} {rs : List Re} → Part x r → PartOf x (r ∷ rs)
   later : {r : Re} {rs : List Re} → PartOf x rs → PartOf x (r ∷ rs)
 
--- a pool holds it
-abbrev pub Held : List Re → Re → Type 0
-Held p x = holds p x ≡ true
+-- a term stands in a pool, as a fact
+abbrev pub InPool : List Re → Re → Type 0
+InPool p x = holds p x ≡ true
 
 -- no term stands in it twice
 pub record Once (p : List Re) : Type 0 where
@@ -58,4 +58,4 @@ pub record Once (p : List Re) : Type 0 where
 
 -- with a term it holds the term's parts
 pub record Closed (p : List Re) : Type 0 where
-  pub parts : (x r : Re) → Held p r → Part x r → Held p x
+  pub parts : (x r : Re) → InPool p r → Part x r → InPool p x

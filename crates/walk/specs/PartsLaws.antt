@@ -14,7 +14,7 @@ use Rattle.meaning.specs.Re.Re.{Nothing, Empty, Range, Cat, Alt, Star}
 use Rattle.meaning.specs.Tests.{clash, or-true, true-or, or-of-true}
 use Rattle.walk.specs.Vectors.{sameTerm}
 use Rattle.walk.specs.VectorLaws.{term-same, term-self}
-use Rattle.walk.specs.Parts.{holds, withTerm, withParts, withVector, Part, PartOf, Held, Once, Closed}
+use Rattle.walk.specs.Parts.{holds, withTerm, withParts, withVector, Part, PartOf, InPool, Once, Closed}
 use Rattle.walk.specs.Parts.Part.{whole, cat-left, cat-right, alt-left, alt-right, star-in}
 use Rattle.walk.specs.Parts.PartOf.{here, later}
 
@@ -28,7 +28,7 @@ part-trans h (star-in k) = star-in (part-trans h k)
 
 -- ---- what a list holds
 
-pub held-front : (p q : List Re) (x : Re) → Held p x → Held (p ++ q) x
+pub held-front : (p q : List Re) (x : Re) → InPool p x → InPool (p ++ q) x
 unfolding holds
 held-front [] q x h = absurd (clash h refl)
 held-front (y ∷ p) q x h = elim (or-true (sameTerm y x) (holds p x) h) [
@@ -36,12 +36,12 @@ held-front (y ∷ p) q x h = elim (or-true (sameTerm y x) (holds p x) h) [
   | inr e ↦ or-of-true (sameTerm y x) (held-front p q x e)
 ]
 
-pub held-last : (p : List Re) (x : Re) → Held (p ++ (x ∷ [])) x
+pub held-last : (p : List Re) (x : Re) → InPool (p ++ (x ∷ [])) x
 unfolding holds
 held-last [] x = true-or false (term-self x)
 held-last (y ∷ p) x = or-of-true (sameTerm y x) (held-last p x)
 
-pub held-snoc : (p : List Re) (y x : Re) → Held (p ++ (y ∷ [])) x → Held p x ⊎ (y ≡ x)
+pub held-snoc : (p : List Re) (y x : Re) → InPool (p ++ (y ∷ [])) x → InPool p x ⊎ (y ≡ x)
 unfolding holds
 held-snoc [] y x h = elim (or-true (sameTerm y x) false h) [ inl e ↦ inr (term-same y x e) | inr e ↦ inl e ]
 held-snoc (z ∷ p) y x h = elim (or-true (sameTerm z x) (holds (p ++ (y ∷ [])) x) h) [
@@ -50,7 +50,7 @@ held-snoc (z ∷ p) y x h = elim (or-true (sameTerm z x) (holds (p ++ (y ∷ [])
 ]
 
 -- what stands at a place is held
-pub held-at : (p : List Re) (i : ℕ) → i < length p → Held p (getD p i Nothing)
+pub held-at : (p : List Re) (i : ℕ) → i < length p → InPool p (getD p i Nothing)
 unfolding holds
 held-at [] i h = absurd (omega arith)
 held-at (y ∷ p) zero h = true-or (holds p y) (term-self y)
@@ -58,7 +58,7 @@ held-at (y ∷ p) (suc i) h = or-of-true (sameTerm y (getD p i Nothing)) (held-a
 
 -- ---- one term
 
-pub term-held : (p : List Re) (x : Re) → Held p x → withTerm p x ≡ p
+pub term-held : (p : List Re) (x : Re) → InPool p x → withTerm p x ≡ p
 unfolding withTerm
 term-held p x h = rw h
 
@@ -68,7 +68,7 @@ term-new p x h = rw h
 
 -- the two ways: held already, or put at the end
 pub data Joined (p : List Re) (x : Re) : List Re → Type 0 where
-  old : Held p x → Joined p x p
+  old : InPool p x → Joined p x p
   new : holds p x ≡ false → Joined p x (p ++ (x ∷ []))
 
 pub put-term : (p : List Re) (x : Re) → Joined p x (withTerm p x)
@@ -78,19 +78,19 @@ put-term p x = go (holds p x) refl
     go true e = rw (term-held p x e) (old e)
     go false e = rw (term-new p x e) (new e)
 
-put-holds : {p q : List Re} {y : Re} (x : Re) → Joined p y q → Held q x → Held p x ⊎ (y ≡ x)
+put-holds : {p q : List Re} {y : Re} (x : Re) → Joined p y q → InPool q x → InPool p x ⊎ (y ≡ x)
 put-holds x (old h) k = inl k
 put-holds {p} {q} {y} x (new h) k = held-snoc p y x k
 
-put-keeps : {p q : List Re} {y : Re} (x : Re) → Joined p y q → Held p x → Held q x
+put-keeps : {p q : List Re} {y : Re} (x : Re) → Joined p y q → InPool p x → InPool q x
 put-keeps x (old h) k = k
 put-keeps {p} {q} {y} x (new h) k = held-front p (y ∷ []) x k
 
-put-held : {p q : List Re} {y : Re} → Joined p y q → Held q y
+put-held : {p q : List Re} {y : Re} → Joined p y q → InPool q y
 put-held (old h) = h
 put-held {p} {q} {y} (new h) = held-last p y
 
-last-held : {p q : List Re} {y : Re} (x : Re) → Joined p y q → x ≡ y → Held q x
+last-held : {p q : List Re} {y : Re} (x : Re) → Joined p y q → x ≡ y → InPool q x
 last-held x j e = rw e (put-held j)
 
 put-once : {p q : List Re} {y : Re} → Joined p y q → Once p → Once q
@@ -112,10 +112,10 @@ put-once {p} {q} {y} (new h) o = record { apart = go }
           clash (rw f at (held-at p i (omega arith))) h
     ]
 
-pub term-holds : (p : List Re) (y x : Re) → Held (withTerm p y) x ↔ (Held p x ⊎ (y ≡ x))
+pub term-holds : (p : List Re) (y x : Re) → InPool (withTerm p y) x ↔ (InPool p x ⊎ (y ≡ x))
 term-holds p y x = (put-holds x (put-term p y), back)
   where
-    back : Held p x ⊎ (y ≡ x) → Held (withTerm p y) x
+    back : InPool p x ⊎ (y ≡ x) → InPool (withTerm p y) x
     back (inl h) = put-keeps x (put-term p y) h
     back (inr e) = last-held x (put-term p y) (sym e)
 
@@ -135,9 +135,9 @@ leaf-range lo hi x (whole e) = e
 
 -- q is p with all parts of r: it holds these and nothing else, no term twice
 pub record Takes (p : List Re) (r : Re) (q : List Re) : Type 0 where
-  pub only : (x : Re) → Held q x → Held p x ⊎ Part x r
-  pub keeps : (x : Re) → Held p x → Held q x
-  pub takes : (x : Re) → Part x r → Held q x
+  pub only : (x : Re) → InPool q x → InPool p x ⊎ Part x r
+  pub keeps : (x : Re) → InPool p x → InPool q x
+  pub takes : (x : Re) → Part x r → InPool q x
   pub once : Once p → Once q
   pub grows : length p ≤ length q
 
@@ -212,7 +212,7 @@ takes-parts p (Alt a b) =
 takes-parts p (Star a) = takes-one (λ x. star-in) (down-star a) (takes-parts p a) (put-term (withParts p a) (Star a))
 
 -- the pool holds what it held and the parts of the term, nothing else
-pub parts-hold : (p : List Re) (r x : Re) → Held (withParts p r) x ↔ (Held p x ⊎ Part x r)
+pub parts-hold : (p : List Re) (r x : Re) → InPool (withParts p r) x ↔ (InPool p x ⊎ Part x r)
 parts-hold p r x = (takes-parts p r .only x, elim [ inl h ↦ takes-parts p r .keeps x h | inr h ↦ takes-parts p r .takes x h ])
 
 pub parts-once : (p : List Re) (r : Re) → Once p → Once (withParts p r)
@@ -231,7 +231,7 @@ parts-closed p r c = record {
 }
 
 -- what is held adds nothing
-pub parts-held : (p : List Re) (r : Re) → Closed p → Held p r → withParts p r ≡ p
+pub parts-held : (p : List Re) (r : Re) → Closed p → InPool p r → withParts p r ≡ p
 unfolding withParts
 parts-held p Nothing c h = term-held p Nothing h
 parts-held p Empty c h = term-held p Empty h
@@ -250,7 +250,7 @@ parts-held p (Star a) c h = rw (parts-held p a c (c .parts a (Star a) h (star-in
 
 -- ---- a vector
 
-vector-only : (v p : List Re) (x : Re) → Held (withVector p v) x → Held p x ⊎ PartOf x v
+vector-only : (v p : List Re) (x : Re) → InPool (withVector p v) x → InPool p x ⊎ PartOf x v
 unfolding withVector
 vector-only [] p x h = inl h
 vector-only (r ∷ v) p x h = elim (vector-only v (withParts p r) x h) [
@@ -258,17 +258,17 @@ vector-only (r ∷ v) p x h = elim (vector-only v (withParts p r) x h) [
   | inr k ↦ inr (later k)
 ]
 
-vector-keeps : (v p : List Re) (x : Re) → Held p x → Held (withVector p v) x
+vector-keeps : (v p : List Re) (x : Re) → InPool p x → InPool (withVector p v) x
 unfolding withVector
 vector-keeps [] p x h = h
 vector-keeps (r ∷ v) p x h = vector-keeps v (withParts p r) x (takes-parts p r .keeps x h)
 
-vector-takes : (v p : List Re) (x : Re) → PartOf x v → Held (withVector p v) x
+vector-takes : (v p : List Re) (x : Re) → PartOf x v → InPool (withVector p v) x
 unfolding withVector
 vector-takes (r ∷ v) p x (here h) = vector-keeps v (withParts p r) x (takes-parts p r .takes x h)
 vector-takes (r ∷ v) p x (later h) = vector-takes v (withParts p r) x h
 
-pub vector-hold : (p v : List Re) (x : Re) → Held (withVector p v) x ↔ (Held p x ⊎ PartOf x v)
+pub vector-hold : (p v : List Re) (x : Re) → InPool (withVector p v) x ↔ (InPool p x ⊎ PartOf x v)
 vector-hold p v x = (vector-only v p x, elim [ inl h ↦ vector-keeps v p x h | inr h ↦ vector-takes v p x h ])
 
 pub vector-once : (p v : List Re) → Once p → Once (withVector p v)
@@ -287,7 +287,7 @@ vector-grows p [] = omega arith
 vector-grows p (r ∷ v) = omega (arith, takes-parts p r .grows, vector-grows (withParts p r) v)
 
 -- a vector whose components are held adds nothing
-pub vector-held : (p v : List Re) → Closed p → ((k : ℕ) → k < length v → Held p (getD v k Nothing)) → withVector p v ≡ p
+pub vector-held : (p v : List Re) → Closed p → ((k : ℕ) → k < length v → InPool p (getD v k Nothing)) → withVector p v ≡ p
 unfolding withVector
 vector-held p [] c h = refl
 vector-held p (r ∷ v) c h = rw (parts-held p r c (h 0 (omega arith))) (vector-held p v c (λ k l. h (suc k) (omega arith)))

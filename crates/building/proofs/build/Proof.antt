@@ -4,7 +4,7 @@ use mathlib.Core.Path.{ap, _∙_}
 use lib.ListN.{replicate}
 use lib.Seq.{length-front}
 use Rattle.vector.specs.Layout.{workLength}
-use Rattle.building.specs.TableLaws.{
+use Rattle.building.specs.AnswerLaws.{
   fronted,
   part-roomy,
   past-labels,

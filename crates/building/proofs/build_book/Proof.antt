@@ -1,6 +1,6 @@
 -- `building::build_book` meets its contract: a book that is refused builds no table, and any other is opened with its rules.
 -- Assumes nothing.
-use Rattle.building.specs.TableLaws.{tabled-as, book-refused, book-opened, book-table}
+use Rattle.building.specs.AnswerLaws.{tabled-as, book-refused, book-opened, book-table}
 use borrow.Author.Needs.{needs}
 use Rattle.building.proofs.build_book.Statement.{statement}
 use Rattle.building.proofs.build_book.Tie as tie

@@ -1,6 +1,6 @@
 -- `building::build_rules` meets its contract: the walk that begins at vector 0 is the one that builds the book's rules.
 -- Assumes nothing.
-use Rattle.building.specs.TableLaws.{tabled-as, rules-long, rules-first, rules-stop, rules-fillable, rules-table}
+use Rattle.building.specs.AnswerLaws.{tabled-as, rules-long, rules-first, rules-stop, rules-fillable, rules-table}
 use borrow.Author.Needs.{needs}
 use mathlib.Core.Path.{refl}
 use lib.ListN.{replicate}

@@ -1,0 +1,10 @@
+-- From a book to a table. Definitions, in reading order: Build, Calls, Bought; the other files prove things of these.
+-- Main gathers the theorems that are bought.
+pub mod Build
+pub mod Calls
+pub mod Bought
+pub mod BuildLaws
+pub mod BuiltFormed
+pub mod CallLaws
+pub mod Sample
+pub mod Main

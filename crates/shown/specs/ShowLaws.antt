@@ -1,0 +1,182 @@
+-- Laws of what is shown once the walk is finished: the search for the first item whose labels differ, and the text of that item.
+-- What remains to be searched has the same answer as the whole; a text is that of the item it was found from, and one byte.
+use Prim.Native.Nat.{ℕ, zero, suc, _+_, _-_, _<_, _≤_}
+use mathlib.Core.Path.{_≡_, refl, sym, ap, subst, _∙_}
+use mathlib.Core.Bool.{Bool, true, false, cond}
+use mathlib.Core.List.{List, [], _∷_, _++_}
+use native.Mathlib.Numerals.{add-one}
+use native.Mathlib.Nat.{zero-add}
+use native.Mathlib.Omega.{arith}
+use borrow.Author.Tests.{eq-eqb, ne-eqb}
+use lib.Dec.{eqb}
+use lib.ListN.{length, getD, drop, set, replicate, drop-of-length-le}
+use lib.Seq.{drop-cons}
+use Rattle.number.specs.Lists.{written, written-length, written-more, stored-one, Writes}
+use Rattle.meaning.specs.Re.{Text}
+use Rattle.meaning.specs.Rules.{label}
+use Rattle.table.specs.Table.{Table}
+use Rattle.table.specs.Calls.{padded}
+use Rattle.walk.specs.Walk.{none}
+use Rattle.walk.specs.TextLaws.{length-snoc}
+use Rattle.vector.specs.Layout.{sheetsAt, parentsAt, bytesAt}
+use Rattle.vector.specs.Vectors.{vectorOf}
+use Rattle.vector.specs.Memory.{numbersAt, textBy, textOf, itemsOf}
+use Rattle.vector.specs.MemoryLaws.{items-length, items-at}
+use Rattle.vector.specs.MemoryLaws.{first-text}
+use Rattle.verdict.specs.declared.Compared.the-variants.{Same, Differs}
+use Rattle.shown.specs.declared.Seen.{Seen}
+use Rattle.shown.specs.declared.Seen.the-variants.{Alike, Differ}
+use Rattle.verdict.specs.Compare.{stateOf, firstDiffering}
+use Rattle.verdict.specs.Compare.Verdict.{Same as Verdict·same, Differs as Verdict·differs}
+use Rattle.shown.specs.Promises.{Sees, Traced, Blank, Shows}
+
+-- ---- the search
+
+-- the first k items agree, so the answer is that of the others
+abbrev pub Left : List ℕ → ℕ → ℕ → List ℕ → ℕ → Type 0
+Left s n count labels k = (t : Table) → t .labels ≡ labels → firstDiffering t (drop 1 (itemsOf s n count)) ≡ firstDiffering t (drop k (itemsOf s n count))
+
+module _ (s : List ℕ) (n count : ℕ) (labels : List ℕ) where
+  pub left-first : Left s n count labels 1
+  left-first t e = refl
+
+  pub left-none : (k : ℕ) → count ≤ k → Left s n count labels k → Sees s n count labels Alike
+  unfolding firstDiffering
+  left-none k l f t e =
+      let over : length (itemsOf s n count) ≤ k = omega (arith, items-length s n count) in
+      f t e ∙ ap (firstDiffering t) (drop-of-length-le (itemsOf s n count) over)
+
+  module _ (k : ℕ) (inside : k < count) (left : Left s n count labels k) (book : ℕ) (by-book : book ≡ label (vectorOf s n (numbersAt s k)))
+      (sheet : ℕ) (by-table : sheet ≡ getD labels (stateOf (getD s (sheetsAt + k) 0)) 0) where
+    -- item k comes next, with these labels
+    next : (t : Table) → t .labels ≡ labels
+        → firstDiffering t (drop 1 (itemsOf s n count))
+        ≡ cond (eqb book sheet) (firstDiffering t (drop (suc k) (itemsOf s n count))) (Verdict·differs (textOf s k) book sheet)
+    unfolding firstDiffering
+    next t e =
+        let l : k < length (itemsOf s n count) = omega (arith, items-length s n count) in
+        let q : getD (t .labels) (stateOf (getD s (sheetsAt + k) 0)) 0 ≡ sheet = ap (λ (xs : List ℕ). getD xs (stateOf (getD s (sheetsAt + k) 0)) 0) e ∙ sym by-table in
+        left t e ∙ rw (drop-cons (itemsOf s n count) k none l, items-at s n count k inside, firstDiffering, q, ← by-book)
+
+    pub left-next : book ≡ sheet → Left s n count labels (k + 1)
+    left-next e t q = next t q ∙ rw (eq-eqb book sheet e, add-one)
+
+    pub left-found : (book ≡ sheet → ⊥) → Sees s n count labels (Differ k book sheet)
+    left-found d = (inside, λ t q. next t q ∙ rw (ne-eqb book sheet d))
+
+-- ---- the text
+
+-- a text is no longer than the steps back that were allowed for it
+text-short : (f : ℕ) (s : List ℕ) (k : ℕ) → length (textBy f s k) ≤ f
+unfolding textBy
+text-short zero s k = omega arith
+text-short (suc f) s k = go (eqb k 0) (text-short f s (getD s (parentsAt + k) 0))
+  where
+    go : (b : Bool) → length (textBy f s (getD s (parentsAt + k) 0)) ≤ f
+        → length (cond b [] (textBy f s (getD s (parentsAt + k) 0) ++ (getD s (bytesAt + k) 0 ∷ []))) ≤ suc f
+    go true h = omega arith
+    go false h = omega (arith, length-snoc (textBy f s (getD s (parentsAt + k) 0)) (getD s (bytesAt + k) 0))
+
+-- the first item has the empty text, any other that of its parent and its byte
+text-step : (f : ℕ) (s : List ℕ) (k : ℕ) → (k ≡ 0 → ⊥) → textBy (suc f) s k ≡ textBy f s (getD s (parentsAt + k) 0) ++ (getD s (bytesAt + k) 0 ∷ [])
+unfolding textBy
+text-step f s k d = rw (ne-eqb k 0 d)
+
+text-cases : (f g : ℕ) (s : List ℕ) (k : ℕ) → (0 < k → getD s (parentsAt + k) 0 < k) → ((j : ℕ) → j < k → textBy f s j ≡ textBy g s j)
+    → textBy (suc f) s k ≡ textBy (suc g) s k
+text-cases f g s zero p ih = first-text (suc f) s ∙ sym (first-text (suc g) s)
+text-cases f g s (suc k) p ih =
+    text-step f s (suc k) (λ z. omega arith)
+    ∙ ap (λ (u : Text). u ++ (getD s (bytesAt + suc k) 0 ∷ [])) (ih (getD s (parentsAt + suc k) 0) (p (omega arith)))
+    ∙ sym (text-step g s (suc k) (λ z. omega arith))
+
+-- steps enough are enough
+text-enough : (f g : ℕ) (s : List ℕ) (count k : ℕ) → Traced s count → k < count → k ≤ f → k ≤ g → textBy f s k ≡ textBy g s k
+text-enough zero g s count k ok h l m = let e : k ≡ 0 = omega arith in rw e (first-text 0 s ∙ sym (first-text g s))
+text-enough (suc f) zero s count k ok h l m = let e : k ≡ 0 = omega arith in rw e (first-text (suc f) s ∙ sym (first-text 0 s))
+text-enough (suc f) (suc g) s count k ok h l m =
+    text-cases f g s k (λ o. ok .parents k o h) (λ j o. text-enough f g s count j ok (omega arith) (omega arith) (omega arith))
+
+text-next : (s : List ℕ) (k : ℕ) → Traced s (k + 1) → (k ≡ 0 → ⊥) → textOf s k ≡ textOf s (getD s (parentsAt + k) 0) ++ (getD s (bytesAt + k) 0 ∷ [])
+text-next s zero ok d = absurd (d refl)
+text-next s (suc k) ok d =
+    let p = ok .parents (suc k) (omega arith) (omega arith) in
+    text-step k s (suc k) d
+    ∙ ap (λ (u : Text). u ++ (getD s (bytesAt + suc k) 0 ∷ []))
+    (text-enough k (getD s (parentsAt + suc k) 0) s (suc k + 1) (getD s (parentsAt + suc k) 0) ok (omega arith) (omega arith) (omega arith))
+
+pub traced-less : {s : List ℕ} {count : ℕ} (count′ : ℕ) → Traced s count → count′ ≤ count → Traced s count′
+traced-less count′ ok h = record {
+  long = ok .long;
+  few = omega (arith, ok .few);
+  parents = λ k l m. ok .parents k l (omega arith);
+  text-bytes = λ k l. ok .text-bytes k (omega arith);
+}
+
+pub text-none : (s area : List ℕ) (k : ℕ) → k ≡ 0 → Writes (textOf s k) area area 0 0
+unfolding written
+text-none s area k e = record { place = rw (e, first-text 0 s); out = rw (e, first-text 0 s) }
+
+-- the parent's text was written: there is a place for the byte after it, and with it the text is whole
+pub record Nearly (s : List ℕ) (k : ℕ) (area area₁ : List ℕ) (at : ℕ) : Type 0 where
+  pub below : at < k
+  pub room : at < length area₁
+  pub whole : Writes (textOf s k) area (set area₁ at (getD s (bytesAt + k) 0)) 0 (at + 1)
+
+module _ (s : List ℕ) (k : ℕ) (ok : Traced s (k + 1)) (some : k ≡ 0 → ⊥) (area : List ℕ) (enough : k ≤ length area) (area₁ : List ℕ) (at : ℕ)
+    (done : Writes (textOf s (getD s (parentsAt + k) 0)) area area₁ 0 at) where
+  abbrev parent : ℕ
+  parent = getD s (parentsAt + k) 0
+
+  short : at < k
+  short = omega (arith, done .place, text-short parent s parent, ok .parents k (omega arith) (omega arith))
+
+  same : length area₁ ≡ length area
+  same = ap length (done .out) ∙ written-length area 0 (textOf s parent) (omega (arith, short, done .place))
+
+  pub text-nearly : Nearly s k area area₁ at
+  text-nearly = record {
+    below = short;
+    room = omega (arith, short, same);
+    whole = record {
+      place = omega (arith, done .place, ap length (text-next s k ok some), length-snoc (textOf s parent) (getD s (bytesAt + k) 0));
+      out =
+          stored-one area₁ at (getD s (bytesAt + k) 0) (omega (arith, short, same))
+          ∙ rw (done .place, done .out)
+          (written-more area 0 (textOf s parent) (getD s (bytesAt + k) 0 ∷ []) (omega arith) ∙ ap (written area 0) (sym (text-next s k ok some)));
+    };
+  }
+
+-- ---- the answer
+
+drop-zeros : (m k : ℕ) → _≡_ {A = List ℕ} (drop k (replicate m 0)) (replicate (m - k) 0)
+drop-zeros m zero = ap (λ (x : ℕ). replicate x 0) (let e : m ≡ m - 0 = omega arith in e)
+drop-zeros zero (suc k) = ap (λ (x : ℕ). replicate x 0) (let e : 0 ≡ 0 - suc k = omega arith in e)
+drop-zeros (suc m) (suc k) = drop-zeros m k ∙ ap (λ (x : ℕ). replicate x 0) (let e : m - k ≡ suc m - suc k = omega arith in e)
+
+-- a text written to a blank area is the text, and the rest of the area 0
+written-padded : (area w : List ℕ) → Blank area → written area 0 w ≡ padded (length area) w
+unfolding written
+written-padded area w b =
+    ap (λ (l : List ℕ). w ++ l)
+    (ap (drop (0 + length w)) (b .clear) ∙ ap (λ (x : ℕ). drop x (replicate (length area) 0)) (zero-add (length w)) ∙ drop-zeros (length area) (length w))
+
+module _ (s : List ℕ) (n count : ℕ) (labels area : List ℕ) (blank : Blank area) (x : Seen) (sees : Sees s n count labels x) where
+  pub shows-same : x ≡ Alike → Shows s n count labels area area Same
+  shows-same e = record {
+    shows = λ t q.
+        let v : firstDiffering t (drop 1 (itemsOf s n count)) ≡ Verdict·same = subst (Sees s n count labels) e sees t q in
+        record { answer = rw v refl; text = rw v (blank .clear) };
+  }
+
+  module _ (k book sheet : ℕ) (e : x ≡ Differ k book sheet) where
+    pub shows-inside : k < count
+    shows-inside = subst (Sees s n count labels) e sees .0
+
+    pub shows-differs : (area′ : List ℕ) (len : ℕ) → Writes (textOf s k) area area′ 0 len → Shows s n count labels area area′ (Differs len book sheet)
+    shows-differs area′ len w = record {
+      shows = λ t q.
+          let v : firstDiffering t (drop 1 (itemsOf s n count)) ≡ Verdict·differs (textOf s k) book sheet = subst (Sees s n count labels) e sees .1 t q in
+          let m : len ≡ length (textOf s k) = omega (arith, w .place) in
+          record { answer = rw (v, m) refl; text = w .out ∙ written-padded area (textOf s k) blank ∙ rw v refl };
+    }

@@ -1,0 +1,14 @@
+-- What comparing a book with a table answers. Definitions, in reading order: Compare, Calls, Demand; the other files prove things of these.
+-- Main gathers the theorems that are bought.
+pub mod Compare
+pub mod Calls
+pub mod Demand
+pub mod NumberLaws
+pub mod CompareLaws
+pub mod PairLaws
+pub mod DeclineLaws
+pub mod CutsAlike
+pub mod OwnSheet
+pub mod VerdictLaws
+pub mod Sample
+pub mod Main
