@@ -1,6 +1,6 @@
 -- `advice::advise` meets its contract: a text that is too long for its file, or one that was read.
 -- Assumes nothing.
-use Rattle.advice.specs.AdviceLaws.{advice-fits}
+use Rattle.advice.specs.FitLaws.{advice-fits}
 use Rattle.advised.specs.CaseLaws.{unread-told, read-told}
 use borrow.Author.Needs.{needs}
 use Rattle.advice.proofs.advise.Statement.{statement}

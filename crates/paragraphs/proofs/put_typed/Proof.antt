@@ -1,10 +1,10 @@
--- `advice::put_typed` meets its contract: the parts of its definition, one after the other.
+-- `paragraphs::put_typed` meets its contract: the parts of its definition, one after the other.
 -- Assumes nothing.
 use Rattle.phrases.specs.Left.{left-last}
-use Rattle.advice.specs.AdviceLaws.{typed-all, place-room, place-on, fault-room, fault-on, shown-room, shown-on, mark-room, mark-on}
+use Rattle.paragraphs.specs.PartLaws.{typed-all, place-room, place-on, fault-room, fault-on, shown-room, shown-on, mark-room, mark-on}
 use borrow.Author.Needs.{needs}
-use Rattle.advice.proofs.put_typed.Statement.{statement}
-use Rattle.advice.proofs.put_typed.Tie as tie
+use Rattle.paragraphs.proofs.put_typed.Statement.{statement}
+use Rattle.paragraphs.proofs.put_typed.Tie as tie
 
 sub-find-spot : tie.Need-sub-find-spot
 sub-find-spot c = search needs

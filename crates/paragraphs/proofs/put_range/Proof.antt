@@ -1,14 +1,14 @@
--- `advice::put_range` meets its contract: the parts of its definition, one after the other.
+-- `paragraphs::put_range` meets its contract: the parts of its definition, one after the other.
 -- Assumes nothing.
 use Prim.Native.Nat.{_+_, _-_}
 use mathlib.Core.List.{_++_}
 use lib.ListN.{drop}
 use Rattle.advised.specs.Advice.{placeWords, tooMuch, shownLine}
 use Rattle.phrases.specs.Left.{left-room, left-step, left-last}
-use Rattle.advice.specs.AdviceLaws.{range-all}
+use Rattle.paragraphs.specs.PartLaws.{range-all}
 use borrow.Author.Needs.{needs}
-use Rattle.advice.proofs.put_range.Statement.{statement}
-use Rattle.advice.proofs.put_range.Tie as tie
+use Rattle.paragraphs.proofs.put_range.Statement.{statement}
+use Rattle.paragraphs.proofs.put_range.Tie as tie
 
 sub-find-spot : tie.Need-sub-find-spot
 sub-find-spot c = search needs

@@ -1,4 +1,4 @@
--- `advice::put_advice` meets its contract: one case of the definition an arm.
+-- `paragraphs::put_advice` meets its contract: one case of the definition an arm.
 -- Assumes nothing.
 use native.Mathlib.Omega.{arith}
 use mathlib.Core.Path.{refl, sym, ap, _∙_}
@@ -6,11 +6,11 @@ use Rattle.typed.specs.Quoted.{quoted}
 use Rattle.advised.specs.Advice.{adviceOn}
 use Rattle.phrases.specs.WriteLaws.{writes-as}
 use Rattle.advised.specs.CaseLaws.{typed-outside, typed-inside, range-none, range-outside, range-inside}
-use Rattle.advice.specs.AdviceLaws.{nothing-told}
-use Rattle.advice.specs.RoomLaws.{typed-room, range-room}
+use Rattle.paragraphs.specs.PartLaws.{nothing-told}
+use Rattle.paragraphs.specs.RoomLaws.{typed-room, range-room}
 use borrow.Author.Needs.{needs}
-use Rattle.advice.proofs.put_advice.Statement.{statement}
-use Rattle.advice.proofs.put_advice.Tie as tie
+use Rattle.paragraphs.proofs.put_advice.Statement.{statement}
+use Rattle.paragraphs.proofs.put_advice.Tie as tie
 
 enum-known-r : tie.Need-enum-known-r
 enum-known-r c = search needs

@@ -1,4 +1,4 @@
--- The whole text for a refusal: its parts in the order in which the code puts them, and that it fits into its room.
+-- The whole text for a refusal: its parts in the order in which the code puts them, each with its room.
 -- Line and start are those that the code found for the bytes before the place.
 use Prim.Native.Nat.{ℕ, _+_, _-_, _≤_}
 use native.Mathlib.Omega.{arith}
@@ -6,15 +6,13 @@ use mathlib.Core.Path.{_≡_, refl, sym, ap, _∙_}
 use mathlib.Core.List.{List, [], _++_}
 use lib.Dec.{eqb}
 use lib.ListN.{length, take, drop}
-use Rattle.number.specs.declared.Refusal.{Refusal}
 use Rattle.number.specs.Lists.{Writes, writes-none}
 use Rattle.meaning.specs.Re.{Text}
 use Rattle.advised.specs.Advice.{newlines, lineAt, lastStart, startAt, columnAt, shownLine, markLine, couldStand, testedLine}
-use Rattle.advised.specs.Advice.{placeWords, faultWords, tooMuch, overFile, inBytes, typedAdvice, rangeAdvice, unread, adviceOf, adviceRoom}
+use Rattle.advised.specs.Advice.{placeWords, faultWords, tooMuch, overFile, inBytes, typedAdvice, rangeAdvice, unread}
 use Rattle.phrases.specs.Promises.{SpotOf}
 use Rattle.phrases.specs.Left.{Left, left-all, left-as, left-room, left-step}
 use Rattle.phrases.specs.WriteLaws.{writes-as}
-use Rattle.advice.specs.RoomLaws.{advice-room}
 
 -- the code looks at the part of the text from 0 to p
 whole-part : (text : Text) (p : ℕ) → take (p - 0) (drop 0 text) ≡ take p text
@@ -103,13 +101,6 @@ pub unread-all : (s : List ℕ) (at : ℕ) → at + length unread ≤ length s �
 unfolding unread
 unread-all s at h = record { room = h; same = refl; ends = λ u end x. x }
 
--- ---- the whole
-
 -- refusals that typing never answers, and places outside the text
 pub nothing-told : {w : List ℕ} (s : List ℕ) → w ≡ [] → Writes w s s 0 0
 nothing-told s e = writes-as (sym e) (writes-none s 0)
-
--- the advice fits, and so does its end
-pub advice-fits : (text : Text) (r : Refusal) {w s t : List ℕ} {end : ℕ} → w ≡ adviceOf text r → Writes w s t 0 end
-    → Writes (adviceOf text r) s t 0 end × (end ≤ adviceRoom)
-advice-fits text r e a = (writes-as e a, omega (arith, writes-as e a .place, advice-room text r))

@@ -1,14 +1,14 @@
--- `advice::put_unread` meets its contract: a phrase and its end.
+-- `paragraphs::put_unread` meets its contract: a phrase and its end.
 -- Assumes nothing.
 use native.Mathlib.Omega.{arith}
 use Rattle.typed.specs.Quoted.{quoted}
 use Rattle.advised.specs.Advice.{overFile, inBytes}
 use Rattle.phrases.specs.Left.{left-room, left-step, left-last}
-use Rattle.advice.specs.AdviceLaws.{unread-all}
-use Rattle.advice.specs.RoomLaws.{unread-most}
+use Rattle.paragraphs.specs.PartLaws.{unread-all}
+use Rattle.paragraphs.specs.RoomLaws.{unread-most}
 use borrow.Author.Needs.{needs}
-use Rattle.advice.proofs.put_unread.Statement.{statement}
-use Rattle.advice.proofs.put_unread.Tie as tie
+use Rattle.paragraphs.proofs.put_unread.Statement.{statement}
+use Rattle.paragraphs.proofs.put_unread.Tie as tie
 
 slice-aggregate-put-phrase : tie.Need-slice-aggregate-put-phrase
 slice-aggregate-put-phrase c = search needs

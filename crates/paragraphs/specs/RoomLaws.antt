@@ -177,36 +177,3 @@ range-room text p h g =
       too-much-most,
       shown-line-most text (startAt text p),
     )
-
-abbrev Fits : List ℕ → Type 0
-Fits w = length w ≤ adviceRoom
-
-none-fits : Fits []
-none-fits = omega arith
-
-read-room : (text : Text) (r : Refusal) → length text ≤ rulesFile → length (adviceOn text r) ≤ adviceRoom
-unfolding adviceOn noRule quoted
-read-room text (Typed p) h =
-    by-cond Fits (ltb (length text) p) {x = []} {y = typedAdvice text p} (λ e. none-fits)
-    (λ e. typed-room text p (ltb-false (length text) p e) h)
-read-room text (Range p) h =
-    by-cond Fits (eqb (length text) 0) {x = noRule} {y = cond (ltb (length text) p) [] (rangeAdvice text p)} (λ e. omega arith)
-    (λ e. by-cond Fits (ltb (length text) p) {x = []} {y = rangeAdvice text p} (λ f. none-fits) (λ f. range-room text p (ltb-false (length text) p f) h))
-read-room text Input h = none-fits
-read-room text (Short p) h = none-fits
-read-room text (Number p) h = none-fits
-read-room text (Stack p) h = none-fits
-read-room text (Tail p) h = none-fits
-read-room text (Long p) h = none-fits
-read-room text (Pool p) h = none-fits
-read-room text (States p) h = none-fits
-read-room text (Runs p) h = none-fits
-read-room text Loaded h = none-fits
-read-room text Room h = none-fits
-read-room text (Pairs p) h = none-fits
-
-pub advice-room : (text : Text) (r : Refusal) → length (adviceOf text r) ≤ adviceRoom
-unfolding adviceOf
-advice-room text r =
-    by-cond Fits (ltb rulesFile (length text)) {x = unread} {y = adviceOn text r} (λ e. omega (arith, unread-most))
-    (λ e. read-room text r (ltb-false rulesFile (length text) e))
