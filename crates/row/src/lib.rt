@@ -8,7 +8,7 @@ use number::Refusal;
 use number::limits::BYTES;
 use number::limits::STATES;
 use steps::Stepped;
-use table::reading::fill;
+use table::fill;
 
 // The row of item `i` goes into its 256 targets, run by run; the answer tells what is held then, and no number.
 pub fn fill_row(

@@ -13,10 +13,10 @@ use Rattle.number.specs.declared.Refusal.{Refusal}
 use Rattle.number.specs.Limits.{threeGroups, version, rules, states, bytes}
 use Rattle.number.specs.Refused.{Answer}
 use Rattle.number.specs.Refused.Answer.{got, refused}
-use Rattle.number.specs.Numbers.{Bytes, field, writeNumber}
+use Rattle.number.specs.Numbers.{Bytes, field, writeNumber, NumberAt, FieldAt}
 use Rattle.number.specs.Reading.{Reader, onward}
 use Rattle.number.specs.Lists.{drop-past}
-use Rattle.number.specs.NumberLaws.{NumberAt, FieldAt, written-read, field-written, field-read}
+use Rattle.number.specs.NumberLaws.{written-read, field-written, field-read}
 use Rattle.table.specs.Table.{Table}
 use Rattle.table.specs.Sheet.{Rows, Run, readRuns, readStates, sheet, readSheet}
 use Rattle.table.specs.Sheet.{runsOf, writeRuns, writeRow, writeStates, writeSheet}
