@@ -50,7 +50,13 @@ fn write_text(cells: &[u64], k: usize, area: &mut [u8]) -> usize
 }
 
 // What is answered once the walk is finished, with the text written if there is one.
-pub fn show<'a>(cells: &'a [u64], n: usize, count: usize, labels: &'a [u8], area: &mut [u8]) -> Compared
+pub fn show<'a>(
+    cells: &'a [u64],
+    n: usize,
+    count: usize,
+    labels: &'a [u8],
+    area: &mut [u8],
+) -> Compared
     requires { ⌜ Legible (now cells) n count (now labels) ⌝ }
     requires { ⌜ Traced (now cells) count ⌝ }
     requires { ⌜ Blank (now area) ⌝ }

@@ -24,7 +24,6 @@ use Rattle.verdict.specs.Calls.{compareBook}
 use Rattle.verdict.specs.Demand.{CutAlike, WholeAlike, Differ, PairNumber, Declined, WithinLimits}
 use Rattle.verdict.specs.DeclineLaws.{answered, not-both, declined-one}
 use Rattle.verdict.specs.PairLaws.{number-one}
-
 use Rattle.verdict.specs.VerdictLaws.{book-cut, same-alike, same-exactly, shown-differs, declines-at, answers-within, wider-answered, wider-long, own-table}
 
 -- a text has exactly one cut by a book's rules, as it has by a table (cutting, the-cut)
