@@ -6,6 +6,6 @@ pub mod Sample
 pub mod CaseLaws
 pub mod ByteLaws
 pub mod StartLaws
-pub mod ToldLaws
+pub mod TellingLaws
 pub mod SampleLaws
 pub mod Main

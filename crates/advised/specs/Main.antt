@@ -1,5 +1,5 @@
 -- The theorems of what people are told that are bought, together; each is proved in the file that its proof names.
--- To believe them, read only definitions: Advice, Bought and Sample, Print of rules_book, and what a rightly typed text is in the crate typed.
+-- To believe them, read only definitions: Advice, Bought and Sample, Print of rules_book, and those of number, lines and typed that they name.
 use Prim.Native.Nat.{ℕ, _<_}
 use mathlib.Core.Path.{_≡_}
 use mathlib.Core.Bool.{true}
@@ -19,7 +19,7 @@ use Rattle.advised.specs.Bought.{Begins, StartOfLine, Told}
 use Rattle.advised.specs.Sample.{EachHolds, cases}
 use Rattle.advised.specs.ByteLaws.{could-begins, begins-could, before-wrong}
 use Rattle.advised.specs.StartLaws.{line-starts}
-use Rattle.advised.specs.ToldLaws.{refusal-told}
+use Rattle.advised.specs.TellingLaws.{refusal-told}
 use Rattle.advised.specs.SampleLaws.{told-texts, unread-file}
 
 -- whatever text program rules refuses, people are told by the advice that belongs to it

@@ -5,12 +5,9 @@ use native.Mathlib.Omega.{arith}
 use mathlib.Core.Path.{_≡_, refl}
 use mathlib.Core.Bool.{Bool, true, false, cond, _&&_}
 use mathlib.Core.List.{List, [], _∷_, _++_}
-use lib.Dec.{eqb, ltb}
+use lib.Dec.{eqb}
 use lib.ListN.{length, take, drop, replicate, length-append, length-drop, length-replicate}
 use lib.Seq.{length-take-le}
-use borrow.Author.Tests.{ltb-false}
-use Rattle.number.specs.declared.Refusal.{Refusal}
-use Rattle.number.specs.declared.Refusal.the-variants.{Short, Number, Range, Stack, Tail, Long, Pool, States, Runs, Loaded, Room, Pairs, Input, Typed}
 use Rattle.number.specs.Limits.{rules, kinds, nodes, bytes, rulesFile}
 use Rattle.number.specs.Branch.{by-cond}
 use Rattle.meaning.specs.Re.{Text}
@@ -19,7 +16,7 @@ use Rattle.lines.specs.DigitLaws.{decimal-most}
 use Rattle.typed.specs.Quoted.{quoted}
 use Rattle.advised.specs.Advice.{newline, space, newlines, lineAt, startAt, columnAt, printed, shown, shownLine, markLine, couldStand}
 use Rattle.advised.specs.Advice.{kept, Run, neighbours, joined, runs, byteName, runName, runNames, testedLine}
-use Rattle.advised.specs.Advice.{phrase, placeWords, faultWords, overRules, overKinds, overNodes, inAll, tooMuch, overFile, inBytes, typedAdvice, rangeAdvice, noRule, unread, adviceOn, adviceOf, adviceRoom}
+use Rattle.advised.specs.Advice.{phrase, placeWords, faultWords, overRules, overKinds, overNodes, inAll, tooMuch, overFile, inBytes, typedAdvice, rangeAdvice, unread, adviceRoom}
 
 -- ---- lines
 

@@ -1,5 +1,5 @@
 // What the program rules does: it reads a file of rules, and saves its book in words.book or prints the refusal and tells people why.
-// A refusal of the text leaves words.book as it was, since it is opened only when the book's bytes are there, as advice::rules_book promises them.
+// A refusal of the text leaves words.book as it was, since it is opened only when the book's bytes are there, as rules_book::rules_book promises them.
 ghost use Prim.Native.Nat.{_≤_};
 ghost use lib.ListN.{length};
 ghost use Rattle.saved.specs.Made.{Makes};
