@@ -19,8 +19,8 @@ use Rattle.table.specs.Promises.{Loads, WritesSheet}
 use Rattle.cutting.specs.declared.Word.{Word}
 use Rattle.cutting.specs.declared.Ended.{Ended}
 use Rattle.cutting.specs.Promises.{CutsInto, CutsWords}
-use Rattle.building.specs.Fill.{Builds}
-use Rattle.comparing.specs.declared.Compared.{Compared}
+use Rattle.building.specs.Promises.{Builds}
+use Rattle.verdict.specs.declared.Compared.{Compared}
 use Rattle.comparing.specs.Promises.{Compares}
 use Rattle.typing.specs.Promises.{Types}
 use Rattle.answers.specs.Told.{taken-one, counted-one, wrote-one, checked-one, told-one, ended-one, compared-one}

@@ -8,8 +8,8 @@ use Rattle.book.specs.Calls.{checkOf, kindOf}
 use Rattle.table.specs.Table.{wellFormed}
 use Rattle.table.specs.Calls.{Filled, loadOf, writeOf}
 use Rattle.cutting.specs.Flat.{cutCellsOf}
-use Rattle.building.specs.Calls.{Building, buildOf}
-use Rattle.comparing.specs.Calls.{Comparison, compareOf}
+use Rattle.built.specs.Calls.{Building, buildOf}
+use Rattle.verdict.specs.Calls.{Comparison, compareOf}
 use Rattle.typed.specs.Calls.{typeOf}
 use Rattle.packed.specs.Packed.{Packed, left, packed, tested, toldCount, toldSize, toldKind, toldReport, toldCompared}
 

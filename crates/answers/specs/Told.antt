@@ -23,9 +23,9 @@ use Rattle.cutting.specs.declared.Ended.the-variants.{Done, Stuck, Full, Refuse
 use Rattle.cutting.specs.Cut.{Ending}
 use Rattle.cutting.specs.Cut.Ending.{Done as Ending·done}
 use Rattle.cutting.specs.Calls.{Report, ended}
-use Rattle.comparing.specs.declared.Compared.{Compared}
-use Rattle.comparing.specs.declared.Compared.the-variants.{Same, Differs, Refused as Compared·refused}
-use Rattle.comparing.specs.Calls.{compared}
+use Rattle.verdict.specs.declared.Compared.{Compared}
+use Rattle.verdict.specs.declared.Compared.the-variants.{Same, Differs, Refused as Compared·refused}
+use Rattle.verdict.specs.Calls.{compared}
 
 pub taken-one : (x y : Taken) → taken x ≡ taken y → x ≡ y
 taken-one (Value a b) (Value c d) e = cc

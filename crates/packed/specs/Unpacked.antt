@@ -14,8 +14,8 @@ use Rattle.book.specs.Calls.Told.{kind, none}
 use Rattle.cutting.specs.Cut.{Ending}
 use Rattle.cutting.specs.Cut.Ending.{Done, StuckAt, FullAt}
 use Rattle.cutting.specs.Calls.{Report}
-use Rattle.comparing.specs.Calls.{Told}
-use Rattle.comparing.specs.Calls.Told.{same, differs}
+use Rattle.verdict.specs.Calls.{Told}
+use Rattle.verdict.specs.Calls.Told.{same, differs}
 use Rattle.packed.specs.Packed.{Packed}
 
 -- the refusal of a number, at a place

@@ -2,7 +2,7 @@
 -- Assumes nothing.
 use borrow.Author.Needs.{needs}
 use mathlib.Core.Path.{sym, ap, _∙_}
-use Rattle.comparing.specs.Calls.{compared}
+use Rattle.verdict.specs.Calls.{compared}
 use Rattle.packed.specs.Packed.{packed, toldCompared}
 use Rattle.packed.proofs.tell_compared.Statement.{statement}
 use Rattle.packed.proofs.tell_compared.Tie as tie
