@@ -20,7 +20,7 @@ use Rattle.verdict.specs.Calls.{compared, answeredIn}
 
 -- ---- the items that were found
 
--- the labels of the first items can be answeredIn, by the book and by the table
+-- the labels of the first items can be told, by the book and by the table
 pub record Legible (s : List ℕ) (n count : ℕ) (labels : List ℕ) : Type 0 where
   pub long : workLength ≤ length s
   pub few : count ≤ items
