@@ -1,4 +1,4 @@
--- Laws of load, one for each of its returns: what was read, filled up with 0, is what Calls.antt says.
+-- Laws of load, one for each of its returns: what was read, filled up with 0, is what table's Calls says.
 -- Filling goes to the end of the lent memory, so that nothing of what stood there before is left.
 use Prim.Native.Nat.{ℕ, _+_, _-_, _*_, _≤_, _<_}
 use native.Mathlib.Nat.{zero-add, sub-zero}

@@ -1,4 +1,4 @@
--- Laws of write_sheet, one for each of its returns: what is answered and what the output holds are what Calls.antt says.
+-- Laws of write_sheet, one for each of its returns: what is answered and what the output holds are what table's Calls says.
 -- A refusal leaves the output as it was.
 use Prim.Native.Nat.{ℕ, _≤_, _<_}
 use native.Mathlib.Nat.{zero-add}
