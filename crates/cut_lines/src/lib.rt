@@ -1,6 +1,7 @@
 // What program cut prints: a line for each word of the text and a last one, or a refusal, alone.
 // Files that are missing or too long are told before the book is looked at.
 ghost use Prim.Native.Nat.{_+_, _-_, _*_, _^_, _<_, _≤_};
+ghost use mathlib.Core.Path.{_≡_};
 ghost use lib.ListN.{length};
 ghost use Rattle.number.specs.Limits.{states, tableCells, textFile};
 ghost use Rattle.number.specs.Lists.{Writes};
@@ -8,12 +9,11 @@ ghost use Rattle.cutting.specs.Flat.{recordCells};
 ghost use Rattle.vector.specs.Layout.{workLength};
 ghost use Rattle.lines.specs.Lines.{lineRoom};
 ghost use Rattle.building.specs.Calls.{buildBook};
-ghost use Rattle.programs.specs.Output.{kindIn, kindBy};
-ghost use Rattle.programs.specs.Turns.{restLines};
+ghost use Rattle.programs.specs.Output.{kindIn};
 ghost use Rattle.programs.specs.Print.{cutBuilt, cutPrint, cutRoom};
-use crate::words;
-use crate::words::RECORD_CELLS;
-use crate::words::Turn;
+ghost use Rattle.turns.specs.Turned.{kindBy};
+ghost use Rattle.cut_lines.specs.Rest.{restLines};
+use cutting::RECORD_CELLS;
 use lines::LINE_ROOM;
 use number::Refusal;
 use number::limits::BOOK_FILE;
@@ -22,6 +22,7 @@ use number::limits::STATES;
 use number::limits::TABLE_CELLS;
 use number::limits::TEXT_FILE;
 use table::Counted;
+use turns::Turn;
 use vector::layout::WORK_LENGTH;
 
 // A line for each byte of a text, and a last one.
@@ -29,6 +30,13 @@ pub const CUT_ROOM: usize = LINE_ROOM * (TEXT_FILE + 1);
 
 // The words of one turn.
 const RECORDS: usize = 640;
+
+// The buffer for all lines. Only its length is told: a prover that sees so many cells goes through them.
+pub fn room() -> [u8; CUT_ROOM]
+    ensures { λ r. ⌜ cutRoom ≡ length r ⌝ }
+{
+    [0; CUT_ROOM]
+}
 
 // The lines of the text from a place on, turn by turn, where `sum` words went before. Every turn but the last takes a byte at least.
 fn put_turns<'a>(
@@ -50,7 +58,7 @@ fn put_turns<'a>(
         (now (out .entry)) (now (out .exit)) at end ⌝ }
     ensures { λ end. ⌜ end ≤ length (now (out .exit)) ⌝ }
 {
-    match words::cut_turn(s, labels, targets, text, from, sum, kinds, cells, out, at) {
+    match turns::cut_turn(s, labels, targets, text, from, sum, kinds, cells, out, at) {
         Turn::Last(end) => end,
         Turn::Onward(next, more, end) => {
             put_turns(s, labels, targets, text, next, more, kinds, cells, out, end)
@@ -74,7 +82,7 @@ fn put_cut<'a>(
     ensures { λ end. ⌜ end ≤ length (now (out .exit)) ⌝ }
 {
     let mut kinds = [0usize; RULES];
-    words::look_up(book, &mut kinds);
+    turns::look_up(book, &mut kinds);
     let mut records = [0usize; RECORD_CELLS * RECORDS];
     put_turns(
         count,

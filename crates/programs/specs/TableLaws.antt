@@ -51,7 +51,7 @@ no-count e = let z : _≡_ {A = ℕ} 0 1 = cc in omega arith
 pub same-count : {n m : ℕ} → _≡_ {A = Outcome ℕ} (gives n) (gives m) → n ≡ m
 same-count e = cc
 
-same-refusal : {r q : Refusal} → _≡_ {A = Outcome ℕ} (refuses r) (refuses q) → r ≡ q
+pub same-refusal : {r q : Refusal} → _≡_ {A = Outcome ℕ} (refuses r) (refuses q) → r ≡ q
 same-refusal e = cc
 
 -- a table that was built

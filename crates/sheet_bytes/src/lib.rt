@@ -7,7 +7,8 @@ ghost use Rattle.number.specs.Refused.Outcome.{refuses};
 ghost use Rattle.table.specs.Formed.{longestSheet};
 ghost use Rattle.vector.specs.Layout.{workLength};
 ghost use Rattle.building.specs.Calls.{buildBook};
-ghost use Rattle.programs.specs.Print.{sheetBuilt, sheetOf, Makes};
+ghost use Rattle.programs.specs.Print.{sheetBuilt, sheetOf};
+ghost use Rattle.sheet_bytes.specs.Put.{Puts};
 use number::Refusal;
 use number::limits::BOOK_FILE;
 use number::limits::STATES;
@@ -16,18 +17,18 @@ use table::Counted;
 use table::Written;
 use vector::layout::WORK_LENGTH;
 
-// A sheet or a line of text, and where it ends.
-pub enum Made {
+// A sheet and where it ends, or a refusal and where its line of text ends.
+pub enum Put {
     Sheet(usize),
-    Line(usize),
+    Line(Refusal, usize),
 }
 
 // A refusal, alone.
-fn refused(r: Refusal, out: &mut [u8]) -> Made
+fn refused(r: Refusal, out: &mut [u8]) -> Put
     requires { ⌜ longestSheet ≤ length (now out) ⌝ }
-    ensures { λ m. ⌜ Makes (refuses r) (now (out .entry)) (now (out .exit)) m ⌝ }
+    ensures { λ p. ⌜ Puts (refuses r) (now (out .entry)) (now (out .exit)) p ⌝ }
 {
-    Made::Line(lines::put_refused(r, out, 0))
+    Put::Line(r, lines::put_refused(r, out, 0))
 }
 
 // The book's sheet, built in lent memory that is large enough.
@@ -37,26 +38,26 @@ fn sheet_in(
     targets: &mut [u8],
     work: &mut [u64],
     out: &mut [u8],
-) -> Made
+) -> Put
     requires { ⌜ states ≤ length (now labels) ⌝ }
     requires { ⌜ tableCells ≤ length (now targets) ⌝ }
     requires { ⌜ workLength ≤ length (now work) ⌝ }
     requires { ⌜ longestSheet ≤ length (now out) ⌝ }
-    ensures { λ m. ⌜ Makes (sheetBuilt (buildBook (now (book .entry)))) (now (out .entry)) (now (out .exit)) m ⌝ }
+    ensures { λ p. ⌜ Puts (sheetBuilt (buildBook (now (book .entry)))) (now (out .entry)) (now (out .exit)) p ⌝ }
 {
     match building::build(book, labels, targets, work) {
         Counted::Refused(r) => refused(r, out),
         Counted::States(count) => match table::write_sheet(count, labels, targets, out) {
-            Written::Bytes(end) => Made::Sheet(end),
+            Written::Bytes(end) => Put::Sheet(end),
             Written::Unwritten(r) => refused(r, out),
         },
     }
 }
 
 // All that program sheet puts out for the bytes of its book; more bytes than a book may have stand for one that is missing or too long.
-pub fn sheet_bytes(book: &[u8], out: &mut [u8]) -> Made
+pub fn sheet_bytes(book: &[u8], out: &mut [u8]) -> Put
     requires { ⌜ longestSheet ≤ length (now out) ⌝ }
-    ensures { λ m. ⌜ Makes (sheetOf (now (book .entry))) (now (out .entry)) (now (out .exit)) m ⌝ }
+    ensures { λ p. ⌜ Puts (sheetOf (now (book .entry))) (now (out .entry)) (now (out .exit)) p ⌝ }
 {
     if BOOK_FILE < book.len() {
         return refused(Refusal::Input, out);

@@ -1,12 +1,14 @@
--- `programs::compare::compare_in` meets its contract: the book's faults, then the sheet's, then what comparing answers and shows.
+-- `compare_lines::compare_in` meets its contract: the book's faults, then the sheet's, then what comparing answers and shows.
 -- Assumes nothing.
 use native.Mathlib.Omega.{arith}
 use mathlib.Core.Path.{sym, ap, _∙_}
 use Rattle.book.specs.Calls.{checked}
-use Rattle.programs.specs.PrintLaws.{writes-as, load-refused, load-gave, compare-holds, files-no-book, files-no-sheet, files-both}
+use Rattle.programs.specs.PrintLaws.{writes-as}
+use Rattle.programs.specs.TableLaws.{load-refused, load-gave}
+use Rattle.compare_lines.specs.ToldLaws.{compare-holds, files-no-book, files-no-sheet, files-both}
 use borrow.Author.Needs.{needs}
-use Rattle.programs.proofs.compare.compare_in.Statement.{statement}
-use Rattle.programs.proofs.compare.compare_in.Tie as tie
+use Rattle.compare_lines.proofs.compare_in.Statement.{statement}
+use Rattle.compare_lines.proofs.compare_in.Tie as tie
 
 check-book-requires : tie.Need-check-book-requires
 check-book-requires c κs = search needs

@@ -1,10 +1,10 @@
--- `programs::compare::compare_lines` meets its contract: Input for each file, else what both files come to.
+-- `compare_lines::compare_lines` meets its contract: Input for each file, else what both files come to.
 -- Assumes nothing.
 use native.Mathlib.Omega.{arith}
 use Rattle.programs.specs.PrintLaws.{writes-as, compare-no-book, compare-no-sheet, compare-both}
 use borrow.Author.Needs.{needs}
-use Rattle.programs.proofs.compare.compare_lines.Statement.{statement}
-use Rattle.programs.proofs.compare.compare_lines.Tie as tie
+use Rattle.compare_lines.proofs.compare_lines.Statement.{statement}
+use Rattle.compare_lines.proofs.compare_lines.Tie as tie
 
 put-refused-requires : tie.Need-put-refused-requires
 put-refused-requires c κs = search needs

@@ -1,11 +1,11 @@
--- `programs::compare::put_answer` meets its contract: one line, or the two of a difference, whose text is the front of the area.
+-- `compare_lines::put_answer` meets its contract: one line, or the two of a difference, whose text is the front of the area.
 -- Assumes nothing.
 use native.Mathlib.Omega.{arith}
 use mathlib.Core.Path.{refl}
-use Rattle.programs.specs.PrintLaws.{told-as, told-inside, told-part, told-differs}
+use Rattle.compare_lines.specs.ToldLaws.{told-as, told-inside, told-part, told-differs}
 use borrow.Author.Needs.{needs}
-use Rattle.programs.proofs.compare.put_answer.Statement.{statement}
-use Rattle.programs.proofs.compare.put_answer.Tie as tie
+use Rattle.compare_lines.proofs.put_answer.Statement.{statement}
+use Rattle.compare_lines.proofs.put_answer.Tie as tie
 
 enum-told : tie.Need-enum-told
 enum-told c = search needs

@@ -1,20 +1,20 @@
--- `programs::cut::put_turns` meets its contract: the last turn's lines, or a full turn's and then those of the turns from its place.
+-- `cut_lines::put_turns` meets its contract: the last turn's lines, or a full turn's and then those of the turns from its place.
 -- The measure is how many bytes are left. Assumes nothing.
 use Prim.Native.Nat.{ℕ, _-_, _/_, _<_}
 use native.Mathlib.Omega.{arith}
 use lib.ListN.{length}
 use Rattle.cutting.specs.Flat.{recordCells}
-use Rattle.programs.specs.Output.{kindBy}
-use Rattle.programs.specs.Turns.{came-last, came-few, came-on, came-then}
+use Rattle.turns.specs.Turned.{kindBy}
+use Rattle.cut_lines.specs.RestLaws.{came-last, came-few, came-on, came-then}
 use borrow.Author.Needs.{needs}
 use borrow.Fn.Kinds.{In}
 use borrow.Fn.PlainCycle.{Measures, is, falls, and}
-use Rattle.programs.proofs.cut.put_turns.Reads as put-turns
-use Rattle.programs.proofs.cut.put_turns.Kinds as put-turns-kinds
-use Rattle.programs.proofs.cut.+put_turns.Lts-put_turns as put-turns-lts
-use Rattle.programs.proofs.words.cut_turn.Reads as cut-turn-reads
-use Rattle.programs.proofs.cut.+put_turns.{statement}
-use Rattle.programs.proofs.cut.+put_turns.Tie.{close}
+use Rattle.cut_lines.proofs.put_turns.Reads as put-turns
+use Rattle.cut_lines.proofs.put_turns.Kinds as put-turns-kinds
+use Rattle.cut_lines.proofs.+put_turns.Lts-put_turns as put-turns-lts
+use Rattle.turns.proofs.cut_turn.Reads as cut-turn-reads
+use Rattle.cut_lines.proofs.+put_turns.{statement}
+use Rattle.cut_lines.proofs.+put_turns.Tie.{close}
 
 abbrev μ-put-turns : Measures 4 put-turns-kinds.ps ℕ
 μ-put-turns κs a = length (a .1 .1 .1 .0 .now) - a .1 .1 .1 .1 .0

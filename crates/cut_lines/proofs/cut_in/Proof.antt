@@ -1,12 +1,14 @@
--- `programs::cut::cut_in` meets its contract: the build's refusal, or the cut by the table that was built.
+-- `cut_lines::cut_in` meets its contract: the build's refusal, or the cut by the table that was built.
 -- Assumes nothing.
 use native.Mathlib.Omega.{arith}
 use mathlib.Core.Path.{sym, ap}
 use Rattle.programs.specs.Print.{cutBuilt}
-use Rattle.programs.specs.PrintLaws.{writes-as, build-refused, build-gave, cut-built}
+use Rattle.programs.specs.PrintLaws.{writes-as}
+use Rattle.programs.specs.TableLaws.{build-refused, build-gave}
+use Rattle.cut_lines.specs.RestLaws.{cut-built}
 use borrow.Author.Needs.{needs}
-use Rattle.programs.proofs.cut.cut_in.Statement.{statement}
-use Rattle.programs.proofs.cut.cut_in.Tie as tie
+use Rattle.cut_lines.proofs.cut_in.Statement.{statement}
+use Rattle.cut_lines.proofs.cut_in.Tie as tie
 
 build-requires : tie.Need-build-requires
 build-requires c κs = search needs

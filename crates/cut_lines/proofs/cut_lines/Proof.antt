@@ -1,10 +1,10 @@
--- `programs::cut::cut_lines` meets its contract: Input for each file, else what both files come to.
+-- `cut_lines::cut_lines` meets its contract: Input for each file, else what both files come to.
 -- Assumes nothing.
 use native.Mathlib.Omega.{arith}
 use Rattle.programs.specs.PrintLaws.{writes-as, cut-no-book, cut-no-text, cut-both}
 use borrow.Author.Needs.{needs}
-use Rattle.programs.proofs.cut.cut_lines.Statement.{statement}
-use Rattle.programs.proofs.cut.cut_lines.Tie as tie
+use Rattle.cut_lines.proofs.cut_lines.Statement.{statement}
+use Rattle.cut_lines.proofs.cut_lines.Tie as tie
 
 put-refused-requires : tie.Need-put-refused-requires
 put-refused-requires c κs = search needs

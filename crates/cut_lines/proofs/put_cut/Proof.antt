@@ -1,14 +1,14 @@
--- `programs::cut::put_cut` meets its contract: the kinds that were looked up are the book's.
+-- `cut_lines::put_cut` meets its contract: the kinds that were looked up are the book's.
 -- Assumes nothing.
 use Prim.Native.Nat.{ℕ}
 use native.Mathlib.Omega.{arith}
 use mathlib.Core.Path.{ap}
-use Rattle.programs.specs.OutputLaws.{kinds-all}
-use Rattle.programs.specs.Turns.{restLines}
+use Rattle.turns.specs.TurnLaws.{kinds-all}
+use Rattle.cut_lines.specs.Rest.{restLines}
 use Rattle.programs.specs.PrintLaws.{writes-as}
 use borrow.Author.Needs.{needs}
-use Rattle.programs.proofs.cut.put_cut.Statement.{statement}
-use Rattle.programs.proofs.cut.put_cut.Tie as tie
+use Rattle.cut_lines.proofs.put_cut.Statement.{statement}
+use Rattle.cut_lines.proofs.put_cut.Tie as tie
 
 slice-aggregate-look-up : tie.Need-slice-aggregate-look-up
 slice-aggregate-look-up c = search needs

@@ -1,10 +1,11 @@
--- `programs::sheet::sheet_in` meets its contract: the build's refusal, or the sheet of the table that was built, which always fits.
+-- `sheet_bytes::sheet_in` meets its contract: the build's refusal, or the sheet of the table that was built, which always fits.
 -- Assumes nothing.
 use native.Mathlib.Omega.{arith}
-use Rattle.programs.specs.PrintLaws.{build-refused, build-gave, makes-as, sheet-refused, makes-sheet, never-unwritten}
+use Rattle.programs.specs.TableLaws.{build-refused, build-gave}
+use Rattle.sheet_bytes.specs.PutLaws.{puts-as, sheet-refused, puts-sheet, never-unwritten}
 use borrow.Author.Needs.{needs}
-use Rattle.programs.proofs.sheet.sheet_in.Statement.{statement}
-use Rattle.programs.proofs.sheet.sheet_in.Tie as tie
+use Rattle.sheet_bytes.proofs.sheet_in.Statement.{statement}
+use Rattle.sheet_bytes.proofs.sheet_in.Tie as tie
 
 build-requires : tie.Need-build-requires
 build-requires c κs = search needs
@@ -47,7 +48,7 @@ returns c =
     let a = c .before .before .before .before .before .before .before .before .before .before .before .before .before .before .before .before .before .before .before .before .before .before .args in
     let p = c .before .before .before .before .before .before .before .before .before .before .before .before .before .before .before .before .before .before .before .before .before .before .pre in
     let refusal = build-refused (a .book .now) (a .labels .now) (a .targets .now) (a .work .now) (p .0) (p .1 .0) (p .1 .1 .0) _ _ _ _ _ (c .before .before .before .before .before .r .given .1) (c .before .before .before .before .before .before .before .before .before .before .before .before .before .build .ensures) in
-    makes-as (sheet-refused _ _ refusal) (c .before .before .refused .ensures)
+    puts-as (sheet-refused _ _ refusal) (c .before .before .refused .ensures)
 
 same-length-5 : tie.Need-same-length-5
 same-length-5 c = search needs
@@ -66,7 +67,7 @@ returns-2 c =
     let a = c .before .before .before .before .before .before .before .before .before .before .before .before .before .before .before .before .before .before .before .before .before .before .before .before .before .before .before .args in
     let p = c .before .before .before .before .before .before .before .before .before .before .before .before .before .before .before .before .before .before .before .before .before .before .before .before .before .before .before .pre in
     let built = build-gave (a .book .now) (a .labels .now) (a .targets .now) (a .work .now) (p .0) (p .1 .0) (p .1 .1 .0) _ _ _ _ _ (c .before .before .before .before .before .before .before .before .before .before .count .given .1) (c .before .before .before .before .before .before .before .before .before .before .before .before .before .before .before .before .before .before .build .ensures) in
-    makes-sheet _ _ _ _ _ _ built (p .1 .1 .1) _ _ (c .before .end .given .1) (omega (arith, c .before .before .before .before .before .write-sheet .kept .1 .1 .1 .0)) (c .before .before .before .before .before .write-sheet .ensures)
+    puts-sheet _ _ _ _ _ _ built (p .1 .1 .1) _ _ (c .before .end .given .1) (omega (arith, c .before .before .before .before .before .write-sheet .kept .1 .1 .1 .0)) (c .before .before .before .before .before .write-sheet .ensures)
 
 same-length-9 : tie.Need-same-length-9
 same-length-9 c = search needs
