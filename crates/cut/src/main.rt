@@ -1,28 +1,16 @@
 // Cuts standard input by the rules of words.book and prints the words.
-// It reads both before it looks at either, and writes once; what is printed is the promise of programs::cut_lines.
-ghost use mathlib.Core.Path.{_≡_};
-ghost use lib.ListN.{length};
-ghost use Rattle.programs.specs.Print.{cutRoom};
+// It reads both before it looks at either, and writes once; what is printed is the promise of cut_lines::cut_lines.
 use libc::STDIN_FILENO;
 use libc::STDOUT_FILENO;
 use number::limits::BOOK_FILE;
 use number::limits::TEXT_FILE;
-use programs::CUT_ROOM;
-use programs::files;
-
-// The buffer for all lines. Only its length is told: a prover that sees so many cells goes through them.
-fn room() -> [u8; CUT_ROOM]
-    ensures { λ r. ⌜ cutRoom ≡ length r ⌝ }
-{
-    [0; CUT_ROOM]
-}
 
 fn main() {
     let mut book = [0u8; BOOK_FILE + 1];
     let mut text = [0u8; TEXT_FILE + 1];
-    let mut out = room();
+    let mut out = cut_lines::room();
     let book_end = files::read_named(b"words.book", &mut book);
     let text_end = files::read_all(STDIN_FILENO, &mut text);
-    let end = programs::cut_lines(&book[0..book_end], &text[0..text_end], &mut out);
+    let end = cut_lines::cut_lines(&book[0..book_end], &text[0..text_end], &mut out);
     io::write_all(STDOUT_FILENO, &out[0..end]);
 }

@@ -15,7 +15,7 @@ use number::Refusal;
 use number::limits::BYTES;
 
 // The cells of a record, where words are laid into plain numbers: start, length, rule.
-const RECORD_CELLS: usize = 3;
+pub const RECORD_CELLS: usize = 3;
 
 // A word: where it starts, how many bytes it has, and its rule.
 pub struct Word {

@@ -54,7 +54,7 @@ pub fn put_decimal(n: usize, out: &mut [u8], at: usize) -> usize
 }
 
 // A byte in two hexadecimal digits.
-pub fn put_hex(byte: u8, out: &mut [u8], at: usize) -> usize
+fn put_hex(byte: u8, out: &mut [u8], at: usize) -> usize
     requires { ⌜ at + 2 ≤ length (now out) ⌝ }
     ensures { λ next. ⌜ Writes (hex byte) (now (out .entry)) (now (out .exit)) at next ⌝ }
 {

@@ -1,26 +1,16 @@
--- The lines of a cut: a line for each word, with the kind of its rule, and a last line; or a refusal, alone.
--- A long text is cut in turns, each into the same records: a turn puts its words, and the text goes on from where the records were full.
-use Prim.Native.Nat.{ℕ, zero, suc, _+_, _*_, _<_, _≤_}
-use mathlib.Core.Path.{_≡_}
-use mathlib.Core.Bool.{cond}
+-- The lines of a cut: a line for each word, with the kind of its rule, and a last line.
+-- How the code comes to them, turn by turn, is specs/Turned.antt's of the crate turns.
+use Prim.Native.Nat.{ℕ, _+_}
 use mathlib.Core.List.{List, [], _∷_, _++_}
-use lib.ListN.{length, getD, drop}
-use Rattle.number.specs.declared.Refusal.the-variants.{Loaded}
+use lib.ListN.{length}
 use Rattle.number.specs.Refused.{Outcome}
 use Rattle.number.specs.Refused.Outcome.{gives, refuses}
-use Rattle.number.specs.Lists.{Writes}
-use Rattle.meaning.specs.Re.{Text}
 use Rattle.book.specs.Calls.{Told, kindOf}
 use Rattle.book.specs.Calls.Told.{kind, none}
-use Rattle.table.specs.Table.{lent, wellFormed}
 use Rattle.cutting.specs.declared.Word.{Word}
-use Rattle.cutting.specs.Calls.{cutOf}
 use Rattle.cutting.specs.Cut.{Ending, Cut}
 use Rattle.cutting.specs.Cut.Ending.{Done, StuckAt, FullAt}
-use Rattle.cutting.specs.Flat.{recordCells}
-use Rattle.lines.specs.Lines.{wordLine, doneLine, stuckLine, refusedLine, lineRoom}
-use Rattle.programs.specs.declared.words.Turn.{Turn}
-use Rattle.programs.specs.declared.words.Turn.the-variants.{Onward, Last}
+use Rattle.lines.specs.Lines.{wordLine, doneLine, stuckLine}
 
 -- ---- kinds
 
@@ -33,25 +23,12 @@ kindNumber (refuses r) = 0
 abbrev pub kindIn : List ℕ → ℕ → ℕ
 kindIn book rule = kindNumber (kindOf book rule)
 
--- a list of kinds, one a rule; past its end there is 0
-abbrev pub Kinds : List ℕ → List ℕ → Type 0
-Kinds book kinds = (i : ℕ) → i < length kinds → getD kinds i 0 ≡ kindIn book i
-
-abbrev pub kindBy : List ℕ → ℕ → ℕ
-kindBy kinds rule = getD kinds rule 0
-
 -- ---- lines
 
 -- words, each with the kind of its rule
 unfoldable pub wordLines : (ℕ → ℕ) → List Word → List ℕ
 wordLines kinds [] = []
 wordLines kinds (w ∷ ws) = wordLine (w .start) (w .len) (w .rule) (kinds (w .rule)) ++ wordLines kinds ws
-
--- the same of so many records, as they lie in cells
-unfoldable pub cellLines : (ℕ → ℕ) → List ℕ → ℕ → List ℕ
-cellLines kinds cells zero = []
-cellLines kinds cells (suc n) =
-    wordLine (getD cells 0 0) (getD cells 1 0) (getD cells 2 0) (kinds (getD cells 2 0)) ++ cellLines kinds (drop recordCells cells) n
 
 -- the last line; a cut that goes on has none yet
 abbrev pub lastLine : ℕ → Ending → List ℕ
@@ -62,49 +39,3 @@ lastLine total (FullAt at) = []
 -- the lines of a cut, where so many words went before
 abbrev pub cutLines : (ℕ → ℕ) → ℕ → Cut → List ℕ
 cutLines kinds before c = wordLines kinds (c .words) ++ lastLine (before + length (c .words)) (c .ending)
-
--- ---- turns
-
--- the cut of a turn: from a place on, with so many records, if the table is well formed
-abbrev pub turnOf : ℕ → List ℕ → List ℕ → Text → ℕ → ℕ → Outcome Cut
-turnOf s labels targets text at room =
-    cond (wellFormed s labels targets) (gives (cutOf (lent s labels targets) text at room)) (refuses Loaded)
-
-abbrev pub turnLines : (ℕ → ℕ) → ℕ → Outcome Cut → List ℕ
-turnLines kinds before (gives c) = cutLines kinds before c
-turnLines kinds before (refuses r) = refusedLine r
-
--- after a turn: nothing more, or on from a place with so many words so far
-pub data Next : Type 0 where
-  stop : Next
-  onward : ℕ → ℕ → Next
-
-abbrev pub nextBy : ℕ → Ending → Next
-nextBy total Done = stop
-nextBy total (StuckAt at) = stop
-nextBy total (FullAt at) = onward at total
-
-abbrev pub nextAfter : ℕ → Outcome Cut → Next
-nextAfter before (gives c) = nextBy (before + length (c .words)) (c .ending)
-nextAfter before (refuses r) = stop
-
--- the code's answer: what comes next, and where the lines end
-abbrev pub next : Turn → Next
-next (Onward at total end) = onward at total
-next (Last end) = stop
-
-abbrev pub endOf : Turn → ℕ
-endOf (Onward at total end) = end
-endOf (Last end) = end
-
--- a turn that goes on has no more lines than words
-abbrev pub Few : ℕ → ℕ → Turn → Type 0
-Few at before (Onward place total end) = end + lineRoom * before ≤ at + lineRoom * total
-Few at before (Last end) = Unit {0}
-
--- what a turn does: its lines stand in the buffer from `at` on, o before and o′ now, and the answer says how it goes on
-pub record Turned (kinds : ℕ → ℕ) (before : ℕ) (x : Outcome Cut) (o o′ : List ℕ) (at : ℕ) (r : Turn) : Type 0 where
-  pub lines : Writes (turnLines kinds before x) o o′ at (endOf r)
-  pub goes : next r ≡ nextAfter before x
-  pub fits : endOf r ≤ length o′
-  pub few : Few at before r

@@ -1,11 +1,11 @@
--- What program cut prints for the sample book W and the text `to tom 7`, byte by byte: document 01's whole output.
--- The checker computes it, from the book's bytes on.
+-- What program cut prints for the sample book W and the text `to tom 7`, byte by byte, which is document 01's whole output; and for `to tom #7`.
+-- The checker computes both, from the book's bytes on.
 use Prim.Native.Nat.{ℕ, _≤_}
 use native.Mathlib.Omega.{arith}
 use mathlib.Core.Path.{_≡_, refl, sym, ap, _∙_}
 use mathlib.Core.List.{List, [], _∷_}
 use lib.ListN.{length}
-use Rattle.number.specs.Limits.{bookFile}
+use Rattle.number.specs.Limits.{bookFile, textFile}
 use Rattle.number.specs.Refused.{Answer, Outcome}
 use Rattle.number.specs.Refused.Answer.{got}
 use Rattle.number.specs.Refused.Outcome.{gives, refuses}
@@ -30,7 +30,7 @@ use Rattle.cutting.specs.Cut.{cutBy}
 use Rattle.building.specs.Build.{buildRules}
 use Rattle.building.specs.Calls.{buildRead}
 use Rattle.lines.specs.Digits.{digitsBy, decimal}
-use Rattle.lines.specs.Lines.{item, wordLine, doneLine, refusedLine}
+use Rattle.lines.specs.Lines.{item, wordLine, doneLine, stuckLine, refusedLine}
 use Rattle.programs.specs.Output.{kindNumber, wordLines, cutLines}
 use Rattle.programs.specs.Print.{cutBuilt, cutPrint}
 use Rattle.programs.specs.PrintLaws.{cut-both}
@@ -49,24 +49,47 @@ sampleLines =
     55 ∷ 32 ∷ 49 ∷ 32 ∷ 50 ∷ 32 ∷ 51 ∷ 10 ∷
     100 ∷ 111 ∷ 110 ∷ 101 ∷ 32 ∷ 53 ∷ 10 ∷ []
 
+-- `to tom #7`: no rule matches at the #
+abbrev pub stuckText : Text
+stuckText = 116 ∷ 111 ∷ 32 ∷ 116 ∷ 111 ∷ 109 ∷ 32 ∷ 35 ∷ 55 ∷ []
+
+-- the words before it, and its place
+abbrev pub stuckLines : List ℕ
+stuckLines =
+    48 ∷ 32 ∷ 50 ∷ 32 ∷ 48 ∷ 32 ∷ 49 ∷ 10 ∷
+    50 ∷ 32 ∷ 49 ∷ 32 ∷ 51 ∷ 32 ∷ 48 ∷ 10 ∷
+    51 ∷ 32 ∷ 51 ∷ 32 ∷ 49 ∷ 32 ∷ 50 ∷ 10 ∷
+    54 ∷ 32 ∷ 49 ∷ 32 ∷ 51 ∷ 32 ∷ 48 ∷ 10 ∷
+    115 ∷ 116 ∷ 117 ∷ 99 ∷ 107 ∷ 32 ∷ 55 ∷ 10 ∷ []
+
 -- the same lines by what was read of the book, so that it is read once
-abbrev linesBy : Answer Book → Outcome Table → List ℕ
-linesBy x (gives t) = cutLines (λ r. kindNumber (kindFrom x r)) 0 (cutBy (firstBy t) (length sampleText) 0 sampleText)
-linesBy x (refuses r) = refusedLine r
+abbrev linesBy : Text → Answer Book → Outcome Table → List ℕ
+linesBy text x (gives t) = cutLines (λ r. kindNumber (kindFrom x r)) 0 (cutBy (firstBy t) (length text) 0 text)
+linesBy text x (refuses r) = refusedLine r
 
-lines-by : (o : Outcome Table) → cutBuilt wBytes sampleText o ≡ linesBy (readBook wBytes) o
-lines-by (gives t) = refl
-lines-by (refuses r) = refl
+lines-by : (text : Text) (o : Outcome Table) → cutBuilt wBytes text o ≡ linesBy text (readBook wBytes) o
+lines-by text (gives t) = refl
+lines-by text (refuses r) = refl
 
-computed : linesBy (got wBook 36) (buildRules W) ≡ sampleLines
+-- so that only this is left to compute
+printed-by : (text : Text) → length text ≤ textFile → cutPrint wBytes text ≡ linesBy text (got wBook 36) (buildRules W)
+printed-by text short =
+    let small : length wBytes ≤ bookFile = omega (arith, w-length) in
+    sym (cut-both wBytes text small short)
+    ∙ ap (cutBuilt wBytes text) (ap buildRead w-reads ∙ ap buildRules w-means)
+    ∙ lines-by text (buildRules W)
+    ∙ ap (λ (x : Answer Book). linesBy text x (buildRules W)) w-reads
+
+computed : linesBy sampleText (got wBook 36) (buildRules W) ≡ sampleLines
 unfolding wBook buildRules walkFrom rows row step come numberIn withVector withParts withTerm holds sameVector derived normalised labelFrom derivFit normalFit deriv nullable normal star alt nested sorted placed kept gathered cat chain order size cutBy firstBy scan wordLines wordLine doneLine item decimal digitsBy
 computed = refl
 
 pub sample-printed : cutPrint wBytes sampleText ≡ sampleLines
-sample-printed =
-    let small : length wBytes ≤ bookFile = omega (arith, w-length) in
-    sym (cut-both wBytes sampleText small (omega arith))
-    ∙ ap (cutBuilt wBytes sampleText) (ap buildRead w-reads ∙ ap buildRules w-means)
-    ∙ lines-by (buildRules W)
-    ∙ ap (λ (x : Answer Book). linesBy x (buildRules W)) w-reads
-    ∙ computed
+sample-printed = printed-by sampleText (omega arith) ∙ computed
+
+computed-stuck : linesBy stuckText (got wBook 36) (buildRules W) ≡ stuckLines
+unfolding wBook buildRules walkFrom rows row step come numberIn withVector withParts withTerm holds sameVector derived normalised labelFrom derivFit normalFit deriv nullable normal star alt nested sorted placed kept gathered cat chain order size cutBy firstBy scan wordLines wordLine stuckLine item decimal digitsBy
+computed-stuck = refl
+
+pub stuck-printed : cutPrint wBytes stuckText ≡ stuckLines
+stuck-printed = printed-by stuckText (omega arith) ∙ computed-stuck

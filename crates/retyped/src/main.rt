@@ -6,7 +6,6 @@ ghost use Rattle.number.specs.Limits.{bookFile};
 use libc::STDOUT_FILENO;
 use number::limits::BOOK_FILE;
 use number::limits::RULES_FILE;
-use programs::files;
 use saved::Made;
 
 fn say(text: &[u8]) {

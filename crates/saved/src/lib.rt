@@ -9,10 +9,9 @@ use lines::LINE_ROOM;
 use number::Refusal;
 use number::limits::RULES_FILE;
 use number::limits::TYPED_AREA;
-use programs::files;
 use table::Written;
 
-// What became of a text. Whether a file can be written is the system's to say.
+// What became of bytes that were read: what they make was saved, or not, or there is none. Whether a file can be written is the system's to say.
 pub enum Made {
     Saved,
     Unsaved,
@@ -26,17 +25,7 @@ pub fn read_rules(name: &[u8], text: &mut [u8; RULES_FILE + 1]) -> usize
     files::read_named(name, text)
 }
 
-fn save(book: &[u8]) -> bool {
-    let fd = os::open_overwrite(b"words.book");
-    if fd < 0 {
-        return false;
-    }
-    let whole = io::write_all(fd, book);
-    libc::close(fd);
-    whole
-}
-
-fn print_refused(r: Refusal) {
+pub fn print_refused(r: Refusal) {
     let mut line = [0u8; LINE_ROOM];
     let end = lines::put_refused(r, &mut line, 0);
     io::write_all(STDOUT_FILENO, &line[0..end]);
@@ -65,7 +54,7 @@ pub fn make_book(text: &[u8], people: i32) -> Made
     let mut book = [0u8; TYPED_AREA];
     match rules_book::rules_book(text, &mut book) {
         Written::Bytes(n) => {
-            if save(&book[0..n]) {
+            if files::save(b"words.book", &book[0..n]) {
                 return Made::Saved;
             }
             tell_unsaved(people);

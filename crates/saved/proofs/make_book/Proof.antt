@@ -17,6 +17,9 @@ rules-book-requires c κs = search needs
 enum-known-n : tie.Need-enum-known-n
 enum-known-n c = search needs
 
+slice-aggregate-save : tie.Need-slice-aggregate-save
+slice-aggregate-save c = search needs
+
 sub-save : tie.Need-sub-save
 sub-save c = search needs
 
@@ -25,8 +28,8 @@ part-save-start c = search needs
 
 part-save-end : tie.Need-part-save-end
 part-save-end c =
-    let rules-book = c .before .before .before .before .before .rules-book in
-    let n = c .before .before .n in
+    let rules-book = c .before .before .before .before .before .before .rules-book in
+    let n = c .before .before .before .n in
     omega (arith, rules-book .ensures .inside _ (n .given .1))
 
 save-requires : tie.Need-save-requires
@@ -34,8 +37,8 @@ save-requires c κs = search needs
 
 returns : tie.Need-returns
 returns c =
-    let rules-book = c .before .before .before .before .before .before .before .before .rules-book in
-    let n = c .before .before .before .before .before .n in
+    let rules-book = c .before .before .before .before .before .before .before .before .before .rules-book in
+    let n = c .before .before .before .before .before .before .n in
     when-written _ (rules-book .ensures) _ _ (n .given .1) (inl refl)
 
 tell-unsaved-requires : tie.Need-tell-unsaved-requires
@@ -49,8 +52,8 @@ tell-requires c κs = search needs
 
 returns-2 : tie.Need-returns-2
 returns-2 c =
-    let rules-book = c .before .before .before .before .before .before .before .before .before .rules-book in
-    let n = c .before .before .before .before .before .before .n in
+    let rules-book = c .before .before .before .before .before .before .before .before .before .before .rules-book in
+    let n = c .before .before .before .before .before .before .before .n in
     when-written _ (rules-book .ensures) _ _ (n .given .1) (inr refl)
 
 returns-3 : tie.Need-returns-3
@@ -66,6 +69,7 @@ make-book-spec =
     slice-aggregate-rules-book
     rules-book-requires
     enum-known-n
+    slice-aggregate-save
     sub-save
     part-save-start
     part-save-end

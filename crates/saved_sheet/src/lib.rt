@@ -1,0 +1,29 @@
+// What the program sheet does with the bytes of its book: it saves the sheet in words.sheet, or prints the refusal.
+// A refusal leaves words.sheet as it was, since it is opened only when the sheet's bytes are there, as sheet_bytes::sheet_bytes promises them.
+ghost use Rattle.saved_sheet.specs.Made.{MakesSheet};
+use libc::STDOUT_FILENO;
+use number::Refusal;
+use saved::Made;
+use sheet_bytes::Put;
+use table::LONGEST_SHEET;
+
+// Saves the sheet of the book of these bytes; more bytes than a book may have stand for one that is missing or too long.
+// A sheet that cannot be written is refused as a book that cannot be read is.
+pub fn make_sheet(book: &[u8]) -> Made
+    ensures { λ made. ⌜ MakesSheet (now (book .entry)) made ⌝ }
+{
+    let mut out = [0u8; LONGEST_SHEET];
+    match sheet_bytes::sheet_bytes(book, &mut out) {
+        Put::Sheet(end) => {
+            if files::save(b"words.sheet", &out[0..end]) {
+                return Made::Saved;
+            }
+            saved::print_refused(Refusal::Input);
+            Made::Unsaved
+        }
+        Put::Line(r, end) => {
+            io::write_all(STDOUT_FILENO, &out[0..end]);
+            Made::Refused(r)
+        }
+    }
+}

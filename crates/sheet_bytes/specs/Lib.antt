@@ -1,0 +1,5 @@
+-- Put says what stands in the buffer and what sheet_bytes answers; Main has the theorem that is bought.
+-- The laws are the code's.
+pub mod Put
+pub mod PutLaws
+pub mod Main
