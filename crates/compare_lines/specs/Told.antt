@@ -4,8 +4,8 @@ use Prim.Native.Nat.{ℕ, _≤_}
 use mathlib.Core.List.{List, _++_}
 use lib.ListN.{length, take}
 use Rattle.lines.specs.Lines.{refusedLine, sameLine, differsLine, hexLine}
-use Rattle.comparing.specs.declared.Compared.{Compared}
-use Rattle.comparing.specs.declared.Compared.the-variants.{Same, Differs, Refused}
+use Rattle.verdict.specs.declared.Compared.{Compared}
+use Rattle.verdict.specs.declared.Compared.the-variants.{Same, Differs, Refused}
 
 abbrev pub toldLines : List ℕ → Compared → List ℕ
 toldLines area Same = sameLine

@@ -22,12 +22,12 @@ use Rattle.table.specs.Table.{Table}
 use Rattle.table.specs.Sheet.{readSheet}
 use Rattle.vector.specs.Layout.{workLength}
 use Rattle.lines.specs.Lines.{refusedLine, differsLine, hexLine}
-use Rattle.comparing.specs.declared.Compared.{Compared}
-use Rattle.comparing.specs.declared.Compared.the-variants.{Same, Differs, Refused}
-use Rattle.comparing.specs.Compare.{Verdict}
-use Rattle.comparing.specs.Compare.Verdict.{Same as Verdict·same, Differs as Verdict·differs}
-use Rattle.comparing.specs.Calls.{Told, compared, compareBook, Comparison, told, compareOf}
-use Rattle.comparing.specs.Calls.Told.{same, differs}
+use Rattle.verdict.specs.declared.Compared.{Compared}
+use Rattle.verdict.specs.declared.Compared.the-variants.{Same, Differs, Refused}
+use Rattle.verdict.specs.Compare.{Verdict}
+use Rattle.verdict.specs.Compare.Verdict.{Same as Verdict·same, Differs as Verdict·differs}
+use Rattle.verdict.specs.Calls.{Told, compared, compareBook, Comparison, answeredIn, compareOf}
+use Rattle.verdict.specs.Calls.Told.{same, differs}
 use Rattle.comparing.specs.Promises.{Compares}
 use Rattle.programs.specs.Print.{sheetNext, bookFirst, compareFiles, verdictLines}
 use Rattle.programs.specs.PrintLaws.{writes-as}
@@ -46,7 +46,7 @@ not-same : {n b s : ℕ} → _≡_ {A = Outcome Told} (gives same) (gives (diffe
 not-same e = let z : _≡_ {A = ℕ} 0 1 = cc in omega arith
 
 holds-told : (area work area′ : List ℕ) (v : Outcome Verdict) (r : Compared) → length area′ ≡ length area
-    → compared r ≡ told area work v .answer → area′ ≡ told area work v .text → Holds v area′ r
+    → compared r ≡ answeredIn area work v .answer → area′ ≡ answeredIn area work v .text → Holds v area′ r
 holds-told area work area′ (gives Verdict·same) Same l e f = record { lines = refl; inside = tt }
 holds-told area work area′ (gives Verdict·same) (Differs n b s) l e f = absurd (not-same (sym e))
 holds-told area work area′ (gives Verdict·same) (Refused r) l e f = absurd (no-told e)
@@ -87,7 +87,7 @@ pub compare-holds : (book : List ℕ) (n : ℕ) (l t area work area′ work′ :
     → Stands table n l t → shownText ≤ length area → workLength ≤ length work → length area′ ≡ length area
     → Compares book n l t area work area′ work′ r → Holds (compareBook book table) area′ r
 compare-holds book n l t area work area′ work′ r table s room long e c =
-    let as-told : compareOf book n l t area work ≡ told area work (compareBook book table) =
+    let as-told : compareOf book n l t area work ≡ answeredIn area work (compareBook book table) =
     rw (le-ltb (length area) shownText room, le-ltb (length work) workLength long, s .well, s .same) refl in
     holds-told area work area′ (compareBook book table) r e
     (c .answer ∙ ap (λ (x : Comparison). x .answer) as-told) (c .text ∙ ap (λ (x : Comparison). x .text) as-told)

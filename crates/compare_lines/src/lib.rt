@@ -9,7 +9,7 @@ ghost use Rattle.vector.specs.Layout.{workLength};
 ghost use Rattle.programs.specs.Print.{compareFiles, verdictLines, comparePrint, compareRoom};
 ghost use Rattle.compare_lines.specs.Told.{toldLines, Inside};
 use book::Checked;
-use comparing::Compared;
+use verdict::Compared;
 use lines::LINE_ROOM;
 use number::Refusal;
 use number::limits::BOOK_FILE;

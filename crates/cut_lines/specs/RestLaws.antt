@@ -19,9 +19,10 @@ use Rattle.cutting.specs.Steps.{FirstBy, firstBy}
 use Rattle.cutting.specs.Cut.{Ending, cutBy}
 use Rattle.cutting.specs.Cut.Ending.{Done, StuckAt, FullAt}
 use Rattle.cutting.specs.CutLaws.{first-by, cut-is}
-use Rattle.cutting.specs.TileLaws.{Finished, cut-on}
+use Rattle.cutting.specs.Tiles.{Finished}
+use Rattle.cutting.specs.TileLaws.{cut-on}
 use Rattle.lines.specs.Lines.{lineRoom}
-use Rattle.building.specs.Calls.{buildBook}
+use Rattle.built.specs.Calls.{buildBook}
 use Rattle.programs.specs.Output.{kindIn, wordLines, cutLines}
 use Rattle.programs.specs.Print.{cutBuilt}
 use Rattle.programs.specs.EnoughLaws.{proper, full-on, cut-ample, cut-over}
@@ -59,10 +60,10 @@ pub record Onwards (kinds : ℕ → ℕ) (s : ℕ) (labels targets : List ℕ) (
 no-stop : {p n : ℕ} → stop ≡ onward p n → ⊥
 no-stop e = let z : _≡_ {A = ℕ} 0 1 = cc in omega arith
 
-over-of : (first : Text → Found) (total : ℕ) (e : Ending) → stop ≡ nextBy total e → Finished first e
-over-of first total Done h = tt
-over-of first total (StuckAt p) h = tt
-over-of first total (FullAt p) h = absurd (no-stop h)
+over-of : (total : ℕ) (e : Ending) → stop ≡ nextBy total e → Finished e
+over-of total Done h = tt
+over-of total (StuckAt p) h = tt
+over-of total (FullAt p) h = absurd (no-stop h)
 
 abbrev Full : ℕ → ℕ → ℕ → Ending → Type 0
 Full p total n e = (e ≡ FullAt p) × (total ≡ n)
@@ -92,7 +93,7 @@ module _ (kinds : ℕ → ℕ) (s : ℕ) (labels targets : List ℕ) (text : Tex
       go true h =
           let c = cutBy (firstBy tbl) m place rest in
           ap (cutLines kinds before)
-          (cut-over tbl m (length text) place rest enough (over-of (firstBy tbl) (before + length (c .words)) (c .ending) h))
+          (cut-over tbl m (length text) place rest enough (over-of (before + length (c .words)) (c .ending) h))
       go false h = refl
 
   module _ (p total : ℕ) (some : 0 < m) where

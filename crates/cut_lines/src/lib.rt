@@ -8,7 +8,7 @@ ghost use Rattle.number.specs.Lists.{Writes};
 ghost use Rattle.cutting.specs.Flat.{recordCells};
 ghost use Rattle.vector.specs.Layout.{workLength};
 ghost use Rattle.lines.specs.Lines.{lineRoom};
-ghost use Rattle.building.specs.Calls.{buildBook};
+ghost use Rattle.built.specs.Calls.{buildBook};
 ghost use Rattle.programs.specs.Output.{kindIn};
 ghost use Rattle.programs.specs.Print.{cutBuilt, cutPrint, cutRoom};
 ghost use Rattle.turns.specs.Turned.{kindBy};

@@ -16,7 +16,8 @@ use Rattle.cutting.specs.Cut.{Ending, Cut, Cuts, cutBy}
 use Rattle.cutting.specs.Cut.Ending.{Done, StuckAt, FullAt}
 use Rattle.cutting.specs.Cut.Cuts.{done, stuck, full, word}
 use Rattle.cutting.specs.CutLaws.{first-by, cut-is}
-use Rattle.cutting.specs.TileLaws.{Finished, cut-enough}
+use Rattle.cutting.specs.Tiles.{Finished}
+use Rattle.cutting.specs.TileLaws.{cut-enough}
 
 pub proper : (t : Table) (text : Text) (n r : ℕ) → FirstBy t text (Found·word n r) → (0 < n) × (n ≤ length text)
 proper t text n r p = (p .0, p .1)
@@ -61,11 +62,11 @@ module _ (F : Text → Found → Type 0) (some : (text : Text) (n r : ℕ) → F
       }
 
   -- with a record for each byte no cut is full
-  ample : (first : Text → Found) {room at : ℕ} {text : Text} {x : Cut} → Cuts F room at text x → length text ≤ room → Finished first (x .ending)
-  ample first (done room at) h = tt
-  ample first (stuck room at c w p) h = tt
-  ample first (full at c w n r p) h = absurd (omega arith)
-  ample first (word room at c w n r x p d) h = ample first d (omega (arith, length-drop n (c ∷ w), some (c ∷ w) n r p .0))
+  ample : {room at : ℕ} {text : Text} {x : Cut} → Cuts F room at text x → length text ≤ room → Finished (x .ending)
+  ample (done room at) h = tt
+  ample (stuck room at c w p) h = tt
+  ample (full at c w n r p) h = absurd (omega arith)
+  ample (word room at c w n r x p d) h = ample d (omega (arith, length-drop n (c ∷ w), some (c ∷ w) n r p .0))
 
 module _ (t : Table) (m k at : ℕ) (text : Text) (enough : length text ≤ k) where
   -- more records than enough change nothing
@@ -73,17 +74,17 @@ module _ (t : Table) (m k at : ℕ) (text : Text) (enough : length text ≤ k) w
   cut-ample =
       ap (λ (j : ℕ). cutBy (firstBy t) j at text) (add-comm m k)
       ∙ cut-enough (firstBy t) k m at text
-      (ample (FirstBy t) (proper t) (firstBy t) (cut-is (FirstBy t) (firstBy t) (first-by t) k at text) enough)
+      (ample (FirstBy t) (proper t) (cut-is (FirstBy t) (firstBy t) (first-by t) k at text) enough)
 
-  pub cut-over : Finished (firstBy t) (cutBy (firstBy t) m at text .ending) → cutBy (firstBy t) m at text ≡ cutBy (firstBy t) k at text
+  pub cut-over : Finished (cutBy (firstBy t) m at text .ending) → cutBy (firstBy t) m at text ≡ cutBy (firstBy t) k at text
   cut-over f = sym (cut-enough (firstBy t) m k at text f) ∙ cut-ample
 
-no-full : (first : Text → Found) (e : Ending) → Finished first e → (p : ℕ) → e ≡ FullAt p → ⊥
-no-full first Done f p e = not-done e
-no-full first (StuckAt q) f p e = not-stuck e
-no-full first (FullAt q) f p e = absurd f
+no-full : (e : Ending) → Finished e → (p : ℕ) → e ≡ FullAt p → ⊥
+no-full Done f p e = not-done e
+no-full (StuckAt q) f p e = not-stuck e
+no-full (FullAt q) f p e = absurd f
 
 pub never-full : (t : Table) (k at : ℕ) (text : Text) → length text ≤ k → (p : ℕ) → cutBy (firstBy t) k at text .ending ≡ FullAt p → ⊥
 never-full t k at text enough =
-    no-full (firstBy t) (cutBy (firstBy t) k at text .ending)
-    (ample (FirstBy t) (proper t) (firstBy t) (cut-is (FirstBy t) (firstBy t) (first-by t) k at text) enough)
+    no-full (cutBy (firstBy t) k at text .ending)
+    (ample (FirstBy t) (proper t) (cut-is (FirstBy t) (firstBy t) (first-by t) k at text) enough)

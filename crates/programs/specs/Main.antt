@@ -17,12 +17,12 @@ use Rattle.book.specs.Expression.{meant}
 use Rattle.book.specs.Sample.{wBytes}
 use Rattle.table.specs.Table.{Table}
 use Rattle.table.specs.Sheet.{readSheet}
-use Rattle.building.specs.Calls.{buildBook}
+use Rattle.built.specs.Calls.{buildBook}
 use Rattle.lines.specs.Lines.{sameLine, refusedLine}
-use Rattle.comparing.specs.Compare.Verdict.{Differs}
-use Rattle.comparing.specs.Calls.{compareBook}
-use Rattle.comparing.specs.Demand.{CutAlike}
-use Rattle.comparing.specs.Main.{the-same, the-difference}
+use Rattle.verdict.specs.Compare.Verdict.{Differs}
+use Rattle.verdict.specs.Calls.{compareBook}
+use Rattle.verdict.specs.Demand.{CutAlike}
+use Rattle.verdict.specs.Main.{the-same, the-difference}
 use Rattle.programs.specs.Print.{cutPrint, Printed, verdictLines, comparePrint, sheetOf}
 use Rattle.programs.specs.Sample.{sampleText, sampleLines, sample-printed, stuckText, stuckLines, stuck-printed}
 use Rattle.programs.specs.MainLaws.{words-printed, same-only, compare-by, compare-next, own-sheet}

@@ -18,13 +18,13 @@ use Rattle.table.specs.Table.{Table}
 use Rattle.table.specs.Sheet.{readSheet, writeSheet}
 use Rattle.cutting.specs.Steps.{firstBy}
 use Rattle.cutting.specs.Cut.{cutBy}
-use Rattle.building.specs.Calls.{buildRead, buildBook}
-use Rattle.building.specs.Main.{the-build}
+use Rattle.built.specs.Calls.{buildRead, buildBook}
+use Rattle.built.specs.Main.{the-build}
 use Rattle.lines.specs.Lines.{sameLine, differsLine, refusedLine}
-use Rattle.comparing.specs.Compare.{Verdict}
-use Rattle.comparing.specs.Compare.Verdict.{Same, Differs}
-use Rattle.comparing.specs.Calls.{compareBook}
-use Rattle.comparing.specs.Main.{the-own-table}
+use Rattle.verdict.specs.Compare.{Verdict}
+use Rattle.verdict.specs.Compare.Verdict.{Same, Differs}
+use Rattle.verdict.specs.Calls.{compareBook}
+use Rattle.verdict.specs.Main.{the-own-table}
 use Rattle.programs.specs.Print.{cutBuilt, Printed, sheetNext, bookFirst, verdictLines, comparePrint, sheetBuilt, sheetOf}
 use Rattle.programs.specs.EnoughLaws.{never-full}
 use Rattle.programs.specs.PrintLaws.{cut-both, compare-both, sheet-whole}

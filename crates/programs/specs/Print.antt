@@ -22,10 +22,10 @@ use Rattle.cutting.specs.Steps.{firstBy}
 use Rattle.cutting.specs.Cut.{Cut, Cuts, cutBy}
 use Rattle.cutting.specs.Cut.Ending.{FullAt}
 use Rattle.lines.specs.Lines.{refusedLine, sameLine, differsLine, hexLine, lineRoom}
-use Rattle.building.specs.Calls.{buildBook}
-use Rattle.comparing.specs.Compare.{Verdict}
-use Rattle.comparing.specs.Compare.Verdict.{Same, Differs}
-use Rattle.comparing.specs.Calls.{compareBook}
+use Rattle.built.specs.Calls.{buildBook}
+use Rattle.verdict.specs.Compare.{Verdict}
+use Rattle.verdict.specs.Compare.Verdict.{Same, Differs}
+use Rattle.verdict.specs.Calls.{compareBook}
 use Rattle.programs.specs.Output.{kindIn, cutLines}
 
 -- ---- cut: Input for the book, Input for the text, the build's refusals; else the cut of the whole text, with a record for each byte

@@ -10,7 +10,7 @@ use Rattle.number.specs.Limits.{bookFile, textFile, sheetFile}
 use Rattle.number.specs.Lists.{Writes}
 use Rattle.number.specs.Refused.Outcome.{refuses}
 use Rattle.meaning.specs.Re.{Text}
-use Rattle.building.specs.Calls.{buildBook}
+use Rattle.built.specs.Calls.{buildBook}
 use Rattle.lines.specs.Lines.{refusedLine}
 use Rattle.programs.specs.Print.{cutBuilt, cutPrint, compareFiles, verdictLines, comparePrint, sheetBuilt, sheetOf}
 

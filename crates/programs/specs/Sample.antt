@@ -27,8 +27,8 @@ use Rattle.walk.specs.Walk.{numberIn, come, step, row, rows, walkFrom}
 use Rattle.table.specs.Table.{Table}
 use Rattle.cutting.specs.Steps.{firstBy}
 use Rattle.cutting.specs.Cut.{cutBy}
-use Rattle.building.specs.Build.{buildRules}
-use Rattle.building.specs.Calls.{buildRead}
+use Rattle.built.specs.Build.{buildRules}
+use Rattle.built.specs.Calls.{buildRead}
 use Rattle.lines.specs.Digits.{digitsBy, decimal}
 use Rattle.lines.specs.Lines.{item, wordLine, doneLine, stuckLine, refusedLine}
 use Rattle.programs.specs.Output.{kindNumber, wordLines, cutLines}

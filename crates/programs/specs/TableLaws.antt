@@ -24,9 +24,9 @@ use Rattle.table.specs.SheetLaws.{sheet-back}
 use Rattle.table.specs.Calls.{counted, Filled, padded, loadRead, loadOf}
 use Rattle.table.specs.Promises.{Loads}
 use Rattle.vector.specs.Layout.{workLength}
-use Rattle.building.specs.Calls.{buildBook, filledBy, buildOf}
-use Rattle.building.specs.Fill.{Builds}
-use Rattle.building.specs.Main.{the-build, the-call}
+use Rattle.built.specs.Calls.{buildBook, filledBy, buildOf}
+use Rattle.building.specs.Promises.{Builds}
+use Rattle.built.specs.Main.{the-build, the-call}
 
 -- a table of the definitions, as it stands in a table area
 pub record Stands (table : Table) (n : ℕ) (l t : List ℕ) : Type 0 where

@@ -6,7 +6,7 @@ ghost use Rattle.number.specs.Limits.{states, tableCells};
 ghost use Rattle.number.specs.Refused.Outcome.{refuses};
 ghost use Rattle.table.specs.Formed.{longestSheet};
 ghost use Rattle.vector.specs.Layout.{workLength};
-ghost use Rattle.building.specs.Calls.{buildBook};
+ghost use Rattle.built.specs.Calls.{buildBook};
 ghost use Rattle.programs.specs.Print.{sheetBuilt, sheetOf};
 ghost use Rattle.sheet_bytes.specs.Put.{Puts};
 use number::Refusal;
@@ -47,7 +47,7 @@ fn sheet_in(
 {
     match building::build(book, labels, targets, work) {
         Counted::Refused(r) => refused(r, out),
-        Counted::States(count) => match table::write_sheet(count, labels, targets, out) {
+        Counted::States(count) => match writing::write_sheet(count, labels, targets, out) {
             Written::Bytes(end) => Put::Sheet(end),
             Written::Unwritten(r) => refused(r, out),
         },

@@ -2,7 +2,7 @@
 // Cases and expected output were made by the model in model/, which knows nothing of this code; docs/WALKED.md says what they are.
 ghost use Prim.Native.Nat.{_≤_};
 ghost use lib.ListN.{length};
-use comparing::Compared;
+use verdict::Compared;
 use cutting::Ended;
 use libc::STDOUT_FILENO;
 use lines::LINE_ROOM;

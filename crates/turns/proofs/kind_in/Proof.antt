@@ -4,13 +4,13 @@ use Prim.Native.Nat.{ℕ}
 use mathlib.Core.Path.{_≡_, ap}
 use Rattle.number.specs.Refused.{Outcome}
 use Rattle.book.specs.declared.RuleKind.{RuleKind}
-use Rattle.book.specs.Calls.{Told, told}
+use Rattle.book.specs.Calls.{Told, kindTold}
 use Rattle.programs.specs.Output.{kindNumber}
 use borrow.Author.Needs.{needs}
 use Rattle.turns.proofs.kind_in.Statement.{statement}
 use Rattle.turns.proofs.kind_in.Tie as tie
 
-tell : {r q : RuleKind} {x : Outcome Told} → told r ≡ x → r ≡ q → kindNumber (told q) ≡ kindNumber x
+tell : {r q : RuleKind} {x : Outcome Told} → kindTold r ≡ x → r ≡ q → kindNumber (kindTold q) ≡ kindNumber x
 tell e f = ap kindNumber (rw f at e)
 
 rule-kind-requires : tie.Need-rule-kind-requires
