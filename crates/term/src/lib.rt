@@ -173,7 +173,7 @@ pub fn is_empty(t: Term) -> bool
 }
 
 // The number of a budget that is left when the nodes of a term's tree are counted off it, 0 where there are more.
-pub fn count_down(cells: &[u64], i: usize, left: usize) -> usize
+fn count_down(cells: &[u64], i: usize, left: usize) -> usize
     requires { ⌜ Sound (now cells) (i + 1) ⌝ }
     ensures { λ r. ⌜ r ≡ left - size (term (now (cells .entry)) i) ⌝ }
 {

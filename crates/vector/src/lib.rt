@@ -35,7 +35,7 @@ pub struct Derived {
 }
 
 // Whether two vectors have the same number at every place.
-pub fn same(a: Vector, b: Vector) -> bool
+fn same(a: Vector, b: Vector) -> bool
     ensures { λ r. ⌜ Tells (a .at) (b .at) r ⌝ }
 {
     let x = a.at;
@@ -65,7 +65,7 @@ pub fn load(cells: &[u64], k: usize) -> Vector
 }
 
 // Stores the vector of item `k`.
-pub fn store(cells: &mut [u64], k: usize, v: Vector)
+fn store(cells: &mut [u64], k: usize, v: Vector)
     requires { ⌜ Within (now cells) k ⌝ }
     ensures { λ _. ⌜ now (cells .exit) ≡ vectorStored (now (cells .entry)) k (v .at) ⌝ }
 {
