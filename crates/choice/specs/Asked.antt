@@ -40,7 +40,16 @@ pub record ShortChoices (s : List ℕ) (top a b : ℕ) : Type 0 where
   pub left-short : short (term s a) ≡ true
   pub right-short : short (term s b) ≡ true
 
--- neither of which is Nothing
+-- two choices to go along, neither of which is Nothing
+pub record Meets (s : List ℕ) (a b : ℕ) : Type 0 where
+  pub left-sound : Sound s (a + 1)
+  pub right-sound : Sound s (b + 1)
+  pub left-shape : InShape (term s a)
+  pub right-shape : InShape (term s b)
+  pub left-some : isNothing (term s a) ≡ false
+  pub right-some : isNothing (term s b) ≡ false
+
+-- two choices to merge, neither of which is Nothing
 pub record Unites (s : List ℕ) (top a b : ℕ) : Type 0 where
   pub choices : Choices s top a b
   pub left-some : isNothing (term s a) ≡ false

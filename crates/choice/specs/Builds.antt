@@ -1,23 +1,16 @@
 -- What the choice of two terms leaves in the work area: the contracts' second half.
 -- A term in normal form is made of terms in normal form; nothing below the old top changes.
-use Prim.Native.Nat.{ℕ, _-_, _≤_}
-use mathlib.Core.Path.{_≡_}
+use Prim.Native.Nat.{ℕ, _-_}
 use mathlib.Core.List.{List}
 use Rattle.meaning.specs.Normal.{alt}
 use Rattle.meaning.specs.Limited.{fit}
 use Rattle.meaning.specs.Shape.{united}
-use Rattle.meaning.specs.ShapeLaws.{headOf}
 use Rattle.term.specs.Cells.{term}
 use Rattle.term.specs.Area.{Makes}
 use Rattle.normal.specs.declared.Built.{Built}
 use Rattle.normal.specs.declared.Made.{Made}
 use Rattle.normal.specs.Made.{MadeBy}
 use Rattle.choice.specs.Asked.{members, altCells}
-
--- the first member of a choice, at the choice's own number or below it
-pub record Heads (s : List ℕ) (i r : ℕ) : Type 0 where
-  pub is : term s r ≡ headOf (term s i)
-  pub low : r ≤ i
 
 -- two choices merged: one node a member at most, and none for the last
 abbrev pub United : List ℕ → ℕ → ℕ → ℕ → List ℕ → Built → Type 0

@@ -1,6 +1,6 @@
 -- What the code's tests of a node tell of its term: whether it is an Alt; and what a comparison tells.
 -- Also that every choice has a member.
-use Prim.Native.Nat.{ℕ, _≤_}
+use Prim.Native.Nat.{ℕ, _+_, _≤_}
 use native.Mathlib.Omega.{arith}
 use mathlib.Core.Path.{_≡_, refl, sym, ap, _∙_}
 use mathlib.Core.Bool.{false}
@@ -10,22 +10,13 @@ use Rattle.meaning.specs.Re.{Re}
 use Rattle.meaning.specs.Normal.{gathered}
 use Rattle.meaning.specs.Order.{order}
 use Rattle.meaning.specs.Shape.{isAlt}
+use Rattle.meaning.specs.ShapeLaws.{gathered-alt}
 use Rattle.term.specs.declared.Term.{Term}
 use Rattle.term.specs.declared.Term.the-variants.{Nothing, Empty, Range, Cat, Alt, Star}
 use Rattle.term.specs.declared.Order.{Order}
 use Rattle.term.specs.Cells.{grow, term}
-use Rattle.term.specs.Nodes.{kindOf, firstOf, secondOf, ordering, Found}
-use Rattle.term.specs.ReadLaws.{found-as}
+use Rattle.term.specs.Nodes.{kindOf, ordering, Found}
 use Rattle.choice.specs.Asked.{members}
-
--- a node of the kind of an Alt
-as-alt : (u : Term) → kindOf u ≡ 4 → u ≡ Alt (firstOf u) (secondOf u)
-as-alt Nothing e = absurd (omega arith)
-as-alt Empty e = absurd (omega arith)
-as-alt (Range lo hi) e = absurd (omega arith)
-as-alt (Cat a b) e = absurd (omega arith)
-as-alt (Alt a b) e = refl
-as-alt (Star a) e = absurd (omega arith)
 
 not-alt : (u : Term) (f : ℕ → Re) → (kindOf u ≡ 4 → ⊥) → isAlt (grow u f) ≡ false
 not-alt Nothing f n = refl
@@ -34,9 +25,6 @@ not-alt (Range lo hi) f n = refl
 not-alt (Cat a b) f n = refl
 not-alt (Alt a b) f n = absurd (n refl)
 not-alt (Star a) f n = refl
-
-pub found-alt : {s : List ℕ} {i : ℕ} {u : Term} {x y : ℕ} → Found s i u → kindOf u ≡ 4 → x ≡ firstOf u → y ≡ secondOf u → Found s i (Alt x y)
-found-alt {s} {i} {u} {x} {y} f e p q = found-as (Alt x y) f (as-alt u e ∙ cc)
 
 pub found-no-alt : {s : List ℕ} {i : ℕ} {u : Term} → Found s i u → (kindOf u ≡ 4 → ⊥) → isAlt (term s i) ≡ false
 found-no-alt {s} {i} {u} f n = rw (f .is) (not-alt u (term s) n)
@@ -54,3 +42,6 @@ members-some (Re.Range lo hi) = omega arith
 members-some (Re.Cat a b) = omega arith
 members-some (Re.Alt a b) = omega (arith, length-append (gathered a) (gathered b), members-some a)
 members-some (Re.Star a) = omega arith
+
+pub members-alt : (x y : Re) → isAlt x ≡ false → members (Re.Alt x y) ≡ 1 + members y
+members-alt x y e = rw (gathered-alt x y e) (omega arith)

@@ -1,65 +1,88 @@
 // The choice of two terms in the work area: their members in order, each once, merged by going along both.
 // A result with the limit is counted, and one of more than 255 nodes is Long.
-ghost use Prim.Native.Nat.{_+_};
-ghost use Rattle.term.specs.Cells.{Sound};
-ghost use Rattle.choice.specs.Asked.{Choices, ShortChoices, Unites};
-ghost use Rattle.choice.specs.Builds.{Heads, United, Alts, AltFits};
+ghost use mathlib.Core.Path.{_≡_};
+ghost use Rattle.choice.specs.Asked.{Choices, ShortChoices, Meets, Unites};
+ghost use Rattle.choice.specs.Merge.{headAt, Goes};
+ghost use Rattle.choice.specs.Builds.{United, Alts, AltFits};
 use normal::Built;
 use normal::Made;
 use normal::store;
 use term::ALT;
 use term::Order;
 use term::Term;
+use term::compare_terms;
+use term::first_of;
+use term::is_nothing;
+use term::is_short;
+use term::kind_of;
+use term::node_at;
+use term::second_of;
 
-// The first member of a choice: of an Alt its left side, of anything else itself.
-fn head_of(cells: &[u64], i: usize) -> usize
-    requires { ⌜ Sound (now cells) (i + 1) ⌝ }
-    ensures { λ r. ⌜ Heads (now (cells .entry)) i r ⌝ }
+// How the merge of two choices goes on, by their first members: it stands in a cell; it is a member and a choice, in two cells;
+// or it is a member, in the first cell, before the merge of two choices.
+enum Merge {
+    Whole(usize),
+    Pair(usize, usize),
+    More(usize, usize, usize),
+}
+
+// The first member of a choice by its node and its cell: of an Alt its left side, of anything else itself.
+fn head_of(node: Term, i: usize) -> usize
+    ensures { λ r. ⌜ r ≡ headAt node i ⌝ }
 {
-    let node = term::node_at(cells, i);
-    let kind = term::kind_of(node);
-    if kind == ALT {
-        return term::first_of(node);
+    if kind_of(node) == ALT {
+        return first_of(node);
     }
     i
 }
 
-// Merges two choices, neither of which is Nothing, by their first members; of equal ones one is kept.
+// Compares the first members of two choices, neither of which is Nothing. The smaller comes first; of equal ones one is kept.
+fn next_member(cells: &[u64], a: usize, b: usize) -> Merge
+    requires { ⌜ Meets (now cells) a b ⌝ }
+    ensures { λ r. ⌜ Goes (now (cells .entry)) a b r ⌝ }
+{
+    let x = node_at(cells, a);
+    let y = node_at(cells, b);
+    let head = head_of(x, a);
+    let rival = head_of(y, b);
+    let order = compare_terms(cells, head, rival);
+    match order {
+        Order::Less => {
+            if kind_of(x) == ALT {
+                return Merge::More(head, second_of(x), b);
+            }
+            Merge::Pair(a, b)
+        }
+        Order::Equal => {
+            if kind_of(x) == ALT {
+                if kind_of(y) == ALT {
+                    return Merge::More(rival, second_of(x), second_of(y));
+                }
+                return Merge::Whole(a);
+            }
+            Merge::Whole(b)
+        }
+        Order::Greater => {
+            if kind_of(y) == ALT {
+                return Merge::More(rival, a, second_of(y));
+            }
+            Merge::Pair(b, a)
+        }
+    }
+}
+
+// Merges two choices, neither of which is Nothing.
 fn unite(cells: &mut [u64], top: usize, a: usize, b: usize) -> Built
     requires { ⌜ Unites (now cells) top a b ⌝ }
     ensures { λ r. ⌜ United (now (cells .entry)) top a b (now (cells .exit)) r ⌝ }
 {
-    let x = term::node_at(cells, a);
-    let y = term::node_at(cells, b);
-    let kind = term::kind_of(x);
-    let other = term::kind_of(y);
-    let head = head_of(cells, a);
-    let rival = head_of(cells, b);
-    let order = term::compare_terms(cells, head, rival);
-    match order {
-        Order::Less => {
-            if kind == ALT {
-                let rest = unite(cells, top, term::second_of(x), b);
-                return store(cells, rest.top, Term::Alt(head, rest.root));
-            }
-            store(cells, top, Term::Alt(a, b))
-        }
-        Order::Equal => {
-            if kind == ALT {
-                if other == ALT {
-                    let rest = unite(cells, top, term::second_of(x), term::second_of(y));
-                    return store(cells, rest.top, Term::Alt(rival, rest.root));
-                }
-                return Built { root: a, top };
-            }
-            Built { root: b, top }
-        }
-        Order::Greater => {
-            if other == ALT {
-                let rest = unite(cells, top, a, term::second_of(y));
-                return store(cells, rest.top, Term::Alt(rival, rest.root));
-            }
-            store(cells, top, Term::Alt(b, a))
+    let step = next_member(cells, a, b);
+    match step {
+        Merge::Whole(root) => Built { root, top },
+        Merge::Pair(first, rest) => store(cells, top, Term::Alt(first, rest)),
+        Merge::More(first, left, right) => {
+            let rest = unite(cells, top, left, right);
+            store(cells, rest.top, Term::Alt(first, rest.root))
         }
     }
 }
@@ -69,12 +92,12 @@ fn alt(cells: &mut [u64], top: usize, a: usize, b: usize) -> Built
     requires { ⌜ Choices (now cells) top a b ⌝ }
     ensures { λ r. ⌜ Alts (now (cells .entry)) top a b (now (cells .exit)) r ⌝ }
 {
-    let x = term::node_at(cells, a);
-    let y = term::node_at(cells, b);
-    if term::is_nothing(x) {
+    let x = node_at(cells, a);
+    let y = node_at(cells, b);
+    if is_nothing(x) {
         return Built { root: b, top };
     }
-    if term::is_nothing(y) {
+    if is_nothing(y) {
         return Built { root: a, top };
     }
     unite(cells, top, a, b)
@@ -86,7 +109,7 @@ pub fn alt_fit(cells: &mut [u64], top: usize, a: usize, b: usize) -> Made
     ensures { λ r. ⌜ AltFits (now (cells .entry)) top a b (now (cells .exit)) r ⌝ }
 {
     let chosen = alt(cells, top, a, b);
-    if term::is_short(cells, chosen.root) {
+    if is_short(cells, chosen.root) {
         Made::Term(chosen.root, chosen.top)
     } else {
         Made::Long
@@ -98,12 +121,12 @@ pub fn alt_short(cells: &mut [u64], top: usize, a: usize, b: usize) -> Made
     requires { ⌜ ShortChoices (now cells) top a b ⌝ }
     ensures { λ r. ⌜ AltFits (now (cells .entry)) top a b (now (cells .exit)) r ⌝ }
 {
-    let x = term::node_at(cells, a);
-    if term::is_nothing(x) {
+    let x = node_at(cells, a);
+    if is_nothing(x) {
         return Made::Term(b, top);
     }
-    let y = term::node_at(cells, b);
-    if term::is_nothing(y) {
+    let y = node_at(cells, b);
+    if is_nothing(y) {
         return Made::Term(a, top);
     }
     alt_fit(cells, top, a, b)

@@ -1,7 +1,6 @@
 -- What the code's tests of a node tell of its term: whether it is a Cat, Nothing or Empty.
 -- Each is over what reading the node told.
 use Prim.Native.Nat.{ℕ}
-use native.Mathlib.Omega.{arith}
 use mathlib.Core.Path.{_≡_, refl, sym, _∙_}
 use mathlib.Core.Bool.{Bool, false}
 use mathlib.Core.List.{List}
@@ -10,18 +9,8 @@ use Rattle.meaning.specs.Shape.{isCat}
 use Rattle.term.specs.declared.Term.{Term}
 use Rattle.term.specs.declared.Term.the-variants.{Nothing, Empty, Range, Cat, Alt, Star}
 use Rattle.term.specs.Cells.{grow, term}
-use Rattle.term.specs.Nodes.{kindOf, firstOf, secondOf, nothingNode, emptyNode, Found}
+use Rattle.term.specs.Nodes.{kindOf, nothingNode, emptyNode, Found}
 use Rattle.term.specs.CellLaws.{found-nothing, found-empty}
-use Rattle.term.specs.ReadLaws.{found-as}
-
--- a node of the kind of a Cat
-as-cat : (u : Term) → kindOf u ≡ 3 → u ≡ Cat (firstOf u) (secondOf u)
-as-cat Nothing e = absurd (omega arith)
-as-cat Empty e = absurd (omega arith)
-as-cat (Range lo hi) e = absurd (omega arith)
-as-cat (Cat a b) e = refl
-as-cat (Alt a b) e = absurd (omega arith)
-as-cat (Star a) e = absurd (omega arith)
 
 not-cat : (u : Term) (f : ℕ → Re) → (kindOf u ≡ 3 → ⊥) → isCat (grow u f) ≡ false
 not-cat Nothing f n = refl
@@ -30,9 +19,6 @@ not-cat (Range lo hi) f n = refl
 not-cat (Cat a b) f n = absurd (n refl)
 not-cat (Alt a b) f n = refl
 not-cat (Star a) f n = refl
-
-pub found-cat : {s : List ℕ} {i : ℕ} {u : Term} {x y : ℕ} → Found s i u → kindOf u ≡ 3 → x ≡ firstOf u → y ≡ secondOf u → Found s i (Cat x y)
-found-cat {s} {i} {u} {x} {y} f e p q = found-as (Cat x y) f (as-cat u e ∙ cc)
 
 pub found-no-cat : {s : List ℕ} {i : ℕ} {u : Term} → Found s i u → (kindOf u ≡ 3 → ⊥) → isCat (term s i) ≡ false
 found-no-cat {s} {i} {u} f n = rw (f .is) (not-cat u (term s) n)

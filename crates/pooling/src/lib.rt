@@ -12,9 +12,14 @@ use number::limits::TREE_NODES;
 use pool::Placed;
 use pool::find_term;
 use pool::put_node;
+use term::CAT;
+use term::STAR;
 use term::Term;
+use term::first_of;
+use term::kind_of;
 use term::node_at;
 use term::push;
+use term::second_of;
 
 // Copies the tree of a term to another area, children first; the answer is the place after it.
 fn copy_out(cells: &[u64], i: usize, out: &mut [u64], at: usize) -> usize
@@ -24,25 +29,19 @@ fn copy_out(cells: &[u64], i: usize, out: &mut [u64], at: usize) -> usize
     ensures { λ r. ⌜ Copied (now (out .entry)) at (now (out .exit)) r (term (now (cells .entry)) i) ⌝ }
 {
     let node = node_at(cells, i);
-    match node {
-        Term::Nothing => push(out, at, node),
-        Term::Empty => push(out, at, node),
-        Term::Range(_, _) => push(out, at, node),
-        Term::Cat(a, b) => {
-            let middle = copy_out(cells, a, out, at);
-            let end = copy_out(cells, b, out, middle);
-            push(out, end, Term::Cat(middle - 1, end - 1))
-        }
-        Term::Alt(a, b) => {
-            let middle = copy_out(cells, a, out, at);
-            let end = copy_out(cells, b, out, middle);
-            push(out, end, Term::Alt(middle - 1, end - 1))
-        }
-        Term::Star(a) => {
-            let end = copy_out(cells, a, out, at);
-            push(out, end, Term::Star(end - 1))
-        }
+    let kind = kind_of(node);
+    if kind < CAT {
+        return push(out, at, node);
     }
+    let middle = copy_out(cells, first_of(node), out, at);
+    if kind == STAR {
+        return push(out, middle, Term::Star(middle - 1));
+    }
+    let end = copy_out(cells, second_of(node), out, middle);
+    if kind == CAT {
+        return push(out, end, Term::Cat(middle - 1, end - 1));
+    }
+    push(out, end, Term::Alt(middle - 1, end - 1))
 }
 
 // Puts a term that stands in another area into the pool with all its parts, children first.
@@ -53,25 +52,19 @@ fn put_copy(out: &[u64], k: usize, index: &mut [usize], cells: &mut [u64], top: 
         (term (now (out .entry)) k) (top + size (term (now (out .entry)) k)) ⌝ }
 {
     let node = node_at(out, k);
-    match node {
-        Term::Nothing => put_node(index, cells, top, node),
-        Term::Empty => put_node(index, cells, top, node),
-        Term::Range(_, _) => put_node(index, cells, top, node),
-        Term::Cat(a, b) => {
-            let left = put_copy(out, a, index, cells, top);
-            let right = put_copy(out, b, index, cells, left.top);
-            put_node(index, cells, right.top, Term::Cat(left.root, right.root))
-        }
-        Term::Alt(a, b) => {
-            let left = put_copy(out, a, index, cells, top);
-            let right = put_copy(out, b, index, cells, left.top);
-            put_node(index, cells, right.top, Term::Alt(left.root, right.root))
-        }
-        Term::Star(a) => {
-            let inner = put_copy(out, a, index, cells, top);
-            put_node(index, cells, inner.top, Term::Star(inner.root))
-        }
+    let kind = kind_of(node);
+    if kind < CAT {
+        return put_node(index, cells, top, node);
     }
+    let left = put_copy(out, first_of(node), index, cells, top);
+    if kind == STAR {
+        return put_node(index, cells, left.top, Term::Star(left.root));
+    }
+    let right = put_copy(out, second_of(node), index, cells, left.top);
+    if kind == CAT {
+        return put_node(index, cells, right.top, Term::Cat(left.root, right.root));
+    }
+    put_node(index, cells, right.top, Term::Alt(left.root, right.root))
 }
 
 // Puts the term in cell `i`, in the pool or in scratch above it, into the pool at `top`; the scratch is given up.

@@ -87,6 +87,24 @@ pub star-size : (s : List ℕ) (i a : ℕ) → Found s i (Star a) → size (term
 unfolding size
 star-size s i a f = rw (f .is)
 
+-- what has children is larger than the first of them; what has two counts them both and itself
+pub first-size : (s : List ℕ) (i : ℕ) (u : Term) → Found s i u → 2 < kindOf u → (a : ℕ) → a ≡ firstOf u → size (term s a) < size (term s i)
+first-size s i Nothing f h a e = absurd (omega arith)
+first-size s i Empty f h a e = absurd (omega arith)
+first-size s i (Range lo hi) f h a e = absurd (omega arith)
+first-size s i (Cat l r) f h a e = rw e (omega (arith, cat-size s i l r f))
+first-size s i (Alt l r) f h a e = rw e (omega (arith, alt-size s i l r f))
+first-size s i (Star l) f h a e = rw e (omega (arith, star-size s i l f))
+
+pub pair-size : (s : List ℕ) (i : ℕ) (u : Term) → Found s i u → 2 < kindOf u → (kindOf u ≡ 5 → ⊥) → (a b : ℕ) → a ≡ firstOf u → b ≡ secondOf u
+    → size (term s i) ≡ 1 + size (term s a) + size (term s b)
+pair-size s i Nothing f h n a b d e = absurd (omega arith)
+pair-size s i Empty f h n a b d e = absurd (omega arith)
+pair-size s i (Range lo hi) f h n a b d e = absurd (omega arith)
+pair-size s i (Cat l r) f h n a b d e = rw (d, e) (cat-size s i l r f)
+pair-size s i (Alt l r) f h n a b d e = rw (d, e) (alt-size s i l r f)
+pair-size s i (Star l) f h n a b d e = absurd (n refl)
+
 -- something is left of one node more than allowed exactly if there are few enough
 pub left-short : (n left : ℕ) → left ≡ treeNodes + 1 - n → ltb 0 left ≡ leb n treeNodes
 left-short n left e =
@@ -196,6 +214,16 @@ rebuild (Star a) = refl
 
 pub of-kind : (u : Term) (k : ℕ) → kindOf u ≡ k → u ≡ rebuilt k (firstOf u) (secondOf u)
 of-kind u k e = rw (← e) (rebuild u)
+
+-- so a node whose kind was told is a Cat, an Alt, a Star
+pub found-cat : {s : List ℕ} {i : ℕ} {u : Term} {x y : ℕ} → Found s i u → kindOf u ≡ 3 → x ≡ firstOf u → y ≡ secondOf u → Found s i (Cat x y)
+found-cat {s} {i} {u} {x} {y} f e p q = found-as (Cat x y) f (rw (p, q) (of-kind u 3 e))
+
+pub found-alt : {s : List ℕ} {i : ℕ} {u : Term} {x y : ℕ} → Found s i u → kindOf u ≡ 4 → x ≡ firstOf u → y ≡ secondOf u → Found s i (Alt x y)
+found-alt {s} {i} {u} {x} {y} f e p q = found-as (Alt x y) f (rw (p, q) (of-kind u 4 e))
+
+pub found-star : {s : List ℕ} {i : ℕ} {u : Term} {x : ℕ} → Found s i u → kindOf u ≡ 5 → x ≡ firstOf u → Found s i (Star x)
+found-star {s} {i} {u} {x} f e p = found-as (Star x) f (rw p (of-kind u 5 e))
 
 order-ranges : (u v : Term) (f : ℕ → Re) (a b a′ b′ : ℕ) → u ≡ Range a b → v ≡ Range a′ b′
     → order (grow u f) (grow v f) ≡ also (compare a a′) (compare b b′)

@@ -5,7 +5,7 @@ use mathlib.Core.Path.{sym, _∙_}
 use Rattle.term.specs.declared.Term.the-variants.{Cat}
 use Rattle.term.specs.Nodes.{Found}
 use Rattle.term.specs.CellLaws.{found}
-use Rattle.normal.specs.NodeLaws.{found-cat}
+use Rattle.term.specs.ReadLaws.{found-cat}
 use Rattle.normal.specs.ChainLaws.{chain-down, chain-asks, chain-up, chain-end}
 use borrow.Author.Needs.{needs}
 use Prim.Native.Nat.{ℕ, _<_}
