@@ -13,7 +13,7 @@ use Rattle.number.specs.NumberLaws.{width-most}
 use Rattle.number.specs.Lists.{Writes, writes-none, writes-then}
 use Rattle.table.specs.Table.{lent}
 use Rattle.table.specs.Sheet.{writeRow, writeStates, writeSheet}
-use Rattle.rows.specs.RowLaws.{row-short}
+use Rattle.runs.specs.RowLaws.{row-short}
 
 -- ---- states
 

@@ -26,7 +26,7 @@ fn states_length<'a>(count: usize, i: usize, labels: &'a [u8], targets: &'a [u8]
     }
     let cell = i * BYTES;
     let state = number::number_width(labels[i] as usize)
-        + rows::row_length(targets, cell, cell + BYTES);
+        + runs::row_length(targets, cell, cell + BYTES);
     state + states_length(count, i + 1, labels, targets)
 }
 
@@ -61,7 +61,7 @@ fn write_states<'a>(
     }
     let cell = i * BYTES;
     let at_row = number::write_number(labels[i] as usize, out, at);
-    let next = rows::write_row(targets, cell, cell + BYTES, out, at_row);
+    let next = runs::write_row(targets, cell, cell + BYTES, out, at_row);
     write_states(count, i + 1, labels, targets, out, next)
 }
 

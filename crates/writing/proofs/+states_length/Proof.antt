@@ -7,7 +7,7 @@ use lib.ListN.{length, getD}
 use lib.Seq.{slice}
 use Rattle.number.specs.Limits.{bytes}
 use Rattle.number.specs.NumberLaws.{width-most}
-use Rattle.rows.specs.RowLaws.{part-row-short}
+use Rattle.runs.specs.RowLaws.{part-row-short}
 use Rattle.writing.specs.WritingLaws.{states-end, states-some, part-states-short}
 use borrow.Fn.Kinds.{In}
 use borrow.Fn.PlainCycle.{Measures, is, falls, and}
@@ -15,7 +15,7 @@ use Rattle.writing.proofs.states_length.Reads as states-length
 use Rattle.writing.proofs.states_length.Kinds as states-length-kinds
 use Rattle.writing.proofs.+states_length.Lts-states_length as states-length-lts
 use Rattle.number.proofs.number_width.Reads as number-width-reads
-use Rattle.rows.proofs.row_length.Reads as row-length-reads
+use Rattle.runs.proofs.row_length.Reads as row-length-reads
 use Rattle.writing.proofs.+states_length.{statement}
 use Rattle.writing.proofs.+states_length.Tie.{close}
 

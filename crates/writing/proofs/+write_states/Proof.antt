@@ -17,7 +17,7 @@ use Rattle.writing.proofs.write_states.Kinds as write-states-kinds
 use Rattle.writing.proofs.+write_states.Lts-write_states as write-states-lts
 use Rattle.number.proofs.write_number.Reads as write-number-reads
 use Rattle.number.specs.Lists.{Writes}
-use Rattle.rows.proofs.write_row.Reads as write-row-reads
+use Rattle.runs.proofs.write_row.Reads as write-row-reads
 use Rattle.writing.proofs.+write_states.{statement}
 use Rattle.writing.proofs.+write_states.Tie.{close}
 

@@ -7,7 +7,7 @@ ghost use lib.Seq.{slice};
 ghost use Rattle.number.specs.Limits.{bytes};
 ghost use Rattle.number.specs.Lists.{Writes};
 ghost use Rattle.table.specs.Sheet.{runsOf, writeRuns, writeRow};
-ghost use Rattle.rows.specs.Promises.{RunAt};
+ghost use Rattle.runs.specs.Promises.{RunAt};
 
 // Where the run that starts at `from` ends, in a row that ends at `end`.
 fn run_end(targets: &[u8], from: usize, end: usize) -> usize

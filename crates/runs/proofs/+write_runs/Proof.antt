@@ -1,21 +1,21 @@
--- `rows::write_runs` meets its contract: nothing at the end of the row, else the first run and what is behind it.
+-- `runs::write_runs` meets its contract: nothing at the end of the row, else the first run and what is behind it.
 -- The measure is what is left of the row. Assumes nothing.
 use Prim.Native.Nat.{ℕ, _-_, _<_}
 use native.Mathlib.Omega.{arith}
 use borrow.Author.Needs.{needs}
 use lib.ListN.{getD}
 use Rattle.number.specs.Numbers.{writeNumber}
-use Rattle.rows.specs.RowLaws.{part-some, runs-written-none, runs-written}
+use Rattle.runs.specs.RowLaws.{part-some, runs-written-none, runs-written}
 use borrow.Fn.Kinds.{In}
 use borrow.Fn.PlainCycle.{Measures, is, falls, and}
-use Rattle.rows.proofs.write_runs.Reads as write-runs
-use Rattle.rows.proofs.write_runs.Kinds as write-runs-kinds
-use Rattle.rows.proofs.+write_runs.Lts-write_runs as write-runs-lts
-use Rattle.rows.proofs.run_end.Reads as run-end-reads
+use Rattle.runs.proofs.write_runs.Reads as write-runs
+use Rattle.runs.proofs.write_runs.Kinds as write-runs-kinds
+use Rattle.runs.proofs.+write_runs.Lts-write_runs as write-runs-lts
+use Rattle.runs.proofs.run_end.Reads as run-end-reads
 use Rattle.number.proofs.write_number.Reads as write-number-reads
 use Rattle.number.specs.Lists.{Writes}
-use Rattle.rows.proofs.+write_runs.{statement}
-use Rattle.rows.proofs.+write_runs.Tie.{close}
+use Rattle.runs.proofs.+write_runs.{statement}
+use Rattle.runs.proofs.+write_runs.Tie.{close}
 
 abbrev μ-write-runs : Measures 2 write-runs-kinds.ps ℕ
 μ-write-runs κs a = a .1 .1 .0 - a .1 .0

@@ -1,12 +1,12 @@
--- `rows::row_length` meets its contract: a row is its count of runs, and the runs.
+-- `runs::row_length` meets its contract: a row is its count of runs, and the runs.
 -- Assumes nothing.
 use native.Mathlib.Omega.{arith}
 use borrow.Author.Needs.{needs}
 use lib.Seq.{slice}
 use Rattle.number.specs.NumberLaws.{width-most}
-use Rattle.rows.specs.RowLaws.{row-is, part-few, part-short}
-use Rattle.rows.proofs.row_length.Statement.{statement}
-use Rattle.rows.proofs.row_length.Tie as tie
+use Rattle.runs.specs.RowLaws.{row-is, part-few, part-short}
+use Rattle.runs.proofs.row_length.Statement.{statement}
+use Rattle.runs.proofs.row_length.Tie as tie
 
 count-runs-requires : tie.Need-count-runs-requires
 count-runs-requires c κs = search needs

@@ -1,18 +1,18 @@
--- `rows::count_runs` meets its contract: none at the end of the row, else one more than behind the first run.
+-- `runs::count_runs` meets its contract: none at the end of the row, else one more than behind the first run.
 -- The measure is what is left of the row. Assumes nothing.
 use Prim.Native.Nat.{ℕ, _+_, _-_, _<_}
 use native.Mathlib.Omega.{arith}
 use mathlib.Core.Path.{sym, ap, _∙_}
 use lib.ListN.{length}
-use Rattle.rows.specs.RowLaws.{runs-none, runs-some, part-few}
+use Rattle.runs.specs.RowLaws.{runs-none, runs-some, part-few}
 use borrow.Fn.Kinds.{In}
 use borrow.Fn.PlainCycle.{Measures, is, falls, and}
-use Rattle.rows.proofs.count_runs.Reads as count-runs
-use Rattle.rows.proofs.count_runs.Kinds as count-runs-kinds
-use Rattle.rows.proofs.+count_runs.Lts-count_runs as count-runs-lts
-use Rattle.rows.proofs.run_end.Reads as run-end-reads
-use Rattle.rows.proofs.+count_runs.{statement}
-use Rattle.rows.proofs.+count_runs.Tie.{close}
+use Rattle.runs.proofs.count_runs.Reads as count-runs
+use Rattle.runs.proofs.count_runs.Kinds as count-runs-kinds
+use Rattle.runs.proofs.+count_runs.Lts-count_runs as count-runs-lts
+use Rattle.runs.proofs.run_end.Reads as run-end-reads
+use Rattle.runs.proofs.+count_runs.{statement}
+use Rattle.runs.proofs.+count_runs.Tie.{close}
 
 abbrev μ-count-runs : Measures 1 count-runs-kinds.ps ℕ
 μ-count-runs κs a = a .1 .1 .0 - a .1 .0

@@ -1,20 +1,20 @@
--- `rows::runs_length` meets its contract: nothing at the end of the row, else the first run and what is behind it.
+-- `runs::runs_length` meets its contract: nothing at the end of the row, else the first run and what is behind it.
 -- The measure is what is left of the row. Assumes nothing.
 use Prim.Native.Nat.{ℕ, _-_, _<_}
 use native.Mathlib.Omega.{arith}
 use mathlib.Core.Path.{sym, ap}
 use lib.ListN.{length, getD}
 use Rattle.number.specs.NumberLaws.{width-most}
-use Rattle.rows.specs.RowLaws.{part-none, part-some, part-short}
+use Rattle.runs.specs.RowLaws.{part-none, part-some, part-short}
 use borrow.Fn.Kinds.{In}
 use borrow.Fn.PlainCycle.{Measures, is, falls, and}
-use Rattle.rows.proofs.runs_length.Reads as runs-length
-use Rattle.rows.proofs.runs_length.Kinds as runs-length-kinds
-use Rattle.rows.proofs.+runs_length.Lts-runs_length as runs-length-lts
-use Rattle.rows.proofs.run_end.Reads as run-end-reads
+use Rattle.runs.proofs.runs_length.Reads as runs-length
+use Rattle.runs.proofs.runs_length.Kinds as runs-length-kinds
+use Rattle.runs.proofs.+runs_length.Lts-runs_length as runs-length-lts
+use Rattle.runs.proofs.run_end.Reads as run-end-reads
 use Rattle.number.proofs.number_width.Reads as number-width-reads
-use Rattle.rows.proofs.+runs_length.{statement}
-use Rattle.rows.proofs.+runs_length.Tie.{close}
+use Rattle.runs.proofs.+runs_length.{statement}
+use Rattle.runs.proofs.+runs_length.Tie.{close}
 
 abbrev μ-runs-length : Measures 1 runs-length-kinds.ps ℕ
 μ-runs-length κs a = a .1 .1 .0 - a .1 .0

@@ -1,13 +1,13 @@
--- `rows::run_end` meets its contract. The loop's invariant: the row from `from` up to i leads to one target.
+-- `runs::run_end` meets its contract. The loop's invariant: the row from `from` up to i leads to one target.
 -- The measure is how much of the row is left. Assumes nothing.
 use Prim.Native.Nat.{_-_}
 use native.Mathlib.Omega.{arith}
 use mathlib.Core.Path.{_≡_, refl, sym, _∙_}
 use borrow.Author.Needs.{needs}
 use lib.ListN.{getD}
-use Rattle.rows.specs.RowLaws.{Along, along-start, along-more, along-stop, along-end, along-other}
-use Rattle.rows.proofs.run_end.Statement.{statement}
-use Rattle.rows.proofs.run_end.Tie as tie
+use Rattle.runs.specs.RowLaws.{Along, along-start, along-more, along-stop, along-end, along-other}
+use Rattle.runs.proofs.run_end.Statement.{statement}
+use Rattle.runs.proofs.run_end.Tie as tie
 
 abbrev Inv-loop : tie.InvT-loop
 Inv-loop targets from end target i₀ i = (target ≡ getD targets from 0) × Along targets from end i

@@ -13,7 +13,7 @@ use Rattle.number.specs.Lists.{Writes, writes-none, writes-then}
 use Rattle.table.specs.Sheet.{Run, runsOf, writeRuns, writeRow}
 use Rattle.table.specs.Formed.{Ends}
 use Rattle.table.specs.SheetRuns.{runs-count, runs-from}
-use Rattle.rows.specs.Promises.{RunAt}
+use Rattle.runs.specs.Promises.{RunAt}
 
 -- ---- runs
 

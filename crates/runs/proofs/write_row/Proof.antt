@@ -1,4 +1,4 @@
--- `rows::write_row` meets its contract: a row is its count of runs, and the runs.
+-- `runs::write_row` meets its contract: a row is its count of runs, and the runs.
 -- Assumes nothing.
 use Prim.Native.Nat.{_+_}
 use native.Mathlib.Omega.{arith}
@@ -9,9 +9,9 @@ use lib.Seq.{slice}
 use Rattle.number.specs.Numbers.{writeNumber}
 use Rattle.number.specs.Lists.{Writes}
 use Rattle.table.specs.Sheet.{runsOf, writeRuns, writeRow}
-use Rattle.rows.specs.RowLaws.{row-is, row-written, part-few}
-use Rattle.rows.proofs.write_row.Statement.{statement}
-use Rattle.rows.proofs.write_row.Tie as tie
+use Rattle.runs.specs.RowLaws.{row-is, row-written, part-few}
+use Rattle.runs.proofs.write_row.Statement.{statement}
+use Rattle.runs.proofs.write_row.Tie as tie
 
 -- how long the row is, by the count that was found
 row-long : (c : tie.After-count-runs)
