@@ -1,43 +1,30 @@
-// Prints what the three programs print on stored inputs, each under a line that names the case.
-// A name with no file stands for a missing file. The sheet that program sheet would write is shown in hexadecimal.
+// Prints what the programs cut, compare and sheet print on stored inputs, each under a line that names the case.
+// A name with no file stands for a missing file, and `folder` for a file that cannot be read. Of sheet it shows words.sheet after each book, in hexadecimal.
 ghost use Prim.Native.Nat.{_+_, _*_, _≤_};
 ghost use mathlib.Core.Path.{_≡_};
 ghost use lib.ListN.{length};
 ghost use Rattle.table.specs.Formed.{longestSheet};
-ghost use Rattle.programs.specs.Print.{cutRoom};
+use compare_lines::COMPARE_ROOM;
 use libc::STDOUT_FILENO;
 use number::limits::BOOK_FILE;
 use number::limits::SHEET_FILE;
 use number::limits::TEXT_FILE;
-use programs::COMPARE_ROOM;
-use programs::CUT_ROOM;
-use programs::Made;
-use programs::files;
+use saved::Made;
 use table::LONGEST_SHEET;
 
-// The buffer for all lines of a cut. Only its length is told: a prover that sees so many cells goes through them.
-fn room() -> [u8; CUT_ROOM]
-    ensures { λ r. ⌜ cutRoom ≡ length r ⌝ }
-{
-    [0; CUT_ROOM]
-}
-
-// The same for the line of a sheet.
-fn hex_room() -> [u8; 2 * LONGEST_SHEET + 1]
-    ensures { λ r. ⌜ 2 * longestSheet + 1 ≡ length r ⌝ }
-{
-    [0; 2 * LONGEST_SHEET + 1]
+fn say(text: &[u8]) {
+    io::write_all(STDOUT_FILENO, text);
 }
 
 fn cut(title: &[u8], book_name: &[u8], text_name: &[u8]) {
     let mut book = [0u8; BOOK_FILE + 1];
     let mut text = [0u8; TEXT_FILE + 1];
-    let mut out = room();
+    let mut out = cut_lines::room();
     let book_end = files::read_named(book_name, &mut book);
     let text_end = files::read_named(text_name, &mut text);
-    let end = programs::cut_lines(&book[0..book_end], &text[0..text_end], &mut out);
-    io::write_all(STDOUT_FILENO, title);
-    io::write_all(STDOUT_FILENO, &out[0..end]);
+    let end = cut_lines::cut_lines(&book[0..book_end], &text[0..text_end], &mut out);
+    say(title);
+    say(&out[0..end]);
 }
 
 fn compare(title: &[u8], book_name: &[u8], sheet_name: &[u8]) {
@@ -46,9 +33,16 @@ fn compare(title: &[u8], book_name: &[u8], sheet_name: &[u8]) {
     let mut out = [0u8; COMPARE_ROOM];
     let book_end = files::read_named(book_name, &mut book);
     let sheet_end = files::read_named(sheet_name, &mut sheet);
-    let end = programs::compare_lines(&book[0..book_end], &sheet[0..sheet_end], &mut out);
-    io::write_all(STDOUT_FILENO, title);
-    io::write_all(STDOUT_FILENO, &out[0..end]);
+    let end = compare_lines::compare_lines(&book[0..book_end], &sheet[0..sheet_end], &mut out);
+    say(title);
+    say(&out[0..end]);
+}
+
+// The buffer for the line of a sheet. Only its length is told: a prover that sees so many cells goes through them.
+fn hex_room() -> [u8; 2 * LONGEST_SHEET + 1]
+    ensures { λ r. ⌜ 2 * longestSheet + 1 ≡ length r ⌝ }
+{
+    [0; 2 * LONGEST_SHEET + 1]
 }
 
 fn show(sheet: &[u8])
@@ -56,21 +50,30 @@ fn show(sheet: &[u8])
 {
     let mut out = hex_room();
     let end = lines::put_hex_line(sheet, 0, &mut out, 0);
-    io::write_all(STDOUT_FILENO, &out[0..end]);
+    say(&out[0..end]);
+}
+
+// What words.sheet holds now.
+fn show_sheet() {
+    let mut sheet = [0u8; LONGEST_SHEET + 1];
+    let end = files::read_named(b"words.sheet", &mut sheet);
+    if end <= LONGEST_SHEET {
+        show(&sheet[0..end]);
+    } else {
+        say(b"no words.sheet\n");
+    }
 }
 
 fn sheet(title: &[u8], book_name: &[u8]) {
     let mut book = [0u8; BOOK_FILE + 1];
-    let mut out = [0u8; LONGEST_SHEET];
-    let book_end = files::read_named(book_name, &mut book);
-    let made = programs::sheet_bytes(&book[0..book_end], &mut out);
-    io::write_all(STDOUT_FILENO, title);
-    match made {
-        Made::Sheet(end) => show(&out[0..end]),
-        Made::Line(end) => {
-            io::write_all(STDOUT_FILENO, &out[0..end]);
-        }
+    let end = files::read_named(book_name, &mut book);
+    say(title);
+    match saved_sheet::make_sheet(&book[0..end]) {
+        Made::Saved => say(b"saved\n"),
+        Made::Unsaved => say(b"unsaved\n"),
+        Made::Refused(_) => {}
     }
+    show_sheet();
 }
 
 fn cuts() {
@@ -106,6 +109,8 @@ fn cuts() {
         b"early.book",
         b"no.text",
     );
+    cut(b"cut: a folder for a book\n", b"folder", b"w.text");
+    cut(b"cut: a folder for a text\n", b"w.book", b"folder");
 }
 
 fn comparisons() {
@@ -177,16 +182,19 @@ fn refused_comparisons() {
         b"early.book",
         b"early.sheet",
     );
+    compare(b"compare: a folder for a book\n", b"folder", b"own.sheet");
+    compare(b"compare: a folder for a sheet\n", b"w.book", b"folder");
 }
 
-// The sheet of 128 states has the bytes that it had while there could be no more.
+// At first there is no words.sheet. A shorter sheet leaves nothing of a longer one, and a refusal leaves all of it.
 fn sheets() {
-    sheet(b"sheet: the sample\n", b"w.book");
+    sheet(b"sheet: a book that ends a byte early\n", b"early.book");
     sheet(b"sheet: 128 states\n", b"s128.book");
     sheet(b"sheet: 255 states\n", b"s255.book");
+    sheet(b"sheet: the sample\n", b"w.book");
     sheet(b"sheet: a book that asks for 256 states\n", b"s256.book");
-    sheet(b"sheet: a book that ends a byte early\n", b"early.book");
     sheet(b"sheet: no book\n", b"no.book");
+    sheet(b"sheet: a folder for a book\n", b"folder");
 }
 
 fn main() {
