@@ -1,4 +1,4 @@
-// Reading and writing files, which the programs share. What is read is the system's; a promise can only say that it lies in the buffer.
+// Reading files, which the programs share. What is read is the system's; a promise can only say that it lies in the buffer.
 // A buffer for a file has one byte more than the file may have, so that a full buffer tells that the file is too long.
 ghost use Prim.Native.Nat.{_≤_};
 ghost use lib.ListN.{length};
@@ -24,15 +24,4 @@ pub fn read_named(name: &[u8], buffer: &mut [u8]) -> usize
     let n = read_all(fd, buffer);
     libc::close(fd);
     n
-}
-
-// Writes a file anew, whole: whether that could be done is the answer, and no promise can say it either.
-pub fn save(name: &[u8], bytes: &[u8]) -> bool {
-    let fd = os::open_overwrite(name);
-    if fd < 0 {
-        return false;
-    }
-    let whole = io::write_all(fd, bytes);
-    libc::close(fd);
-    whole
 }

@@ -1,3 +1,4 @@
--- What becomes of a text of rules: Made says it by what the text's book is.
--- What reaches the file and the two outputs is the system's, and no promise can tell it.
+-- What becomes of a text of rules, and of a book whose sheet is to be saved: Made and SheetMade say it by what the book, and the sheet, is.
+-- What reaches the files and the outputs is the system's, and no promise can tell it.
 pub mod Made
+pub mod SheetMade

@@ -1,5 +1,5 @@
-// What the program rules does: it reads a file of rules, and saves its book in words.book or prints the refusal and tells people why.
-// A refusal of the text leaves words.book as it was, since it is opened only when the book's bytes are there, as rules_book::rules_book promises them.
+// What the programs rules and sheet do with the bytes that they read: they save a book, or a sheet, in its file, or print the refusal.
+// A refusal leaves the file as it was, since it is opened only when the bytes are there, as rules_book and sheet_bytes promise them.
 ghost use Prim.Native.Nat.{_≤_};
 ghost use lib.ListN.{length};
 ghost use Rattle.saved.specs.Made.{Makes};
@@ -10,6 +10,10 @@ use number::Refusal;
 use number::limits::RULES_FILE;
 use number::limits::TYPED_AREA;
 use table::Written;
+
+mod sheet;
+
+pub use sheet::make_sheet;
 
 // What became of bytes that were read: what they make was saved, or not, or there is none. Whether a file can be written is the system's to say.
 pub enum Made {
@@ -25,7 +29,18 @@ pub fn read_rules(name: &[u8], text: &mut [u8; RULES_FILE + 1]) -> usize
     files::read_named(name, text)
 }
 
-pub fn print_refused(r: Refusal) {
+// Writes a file anew, whole; whether that could be done is the answer.
+pub(crate) fn save(name: &[u8], bytes: &[u8]) -> bool {
+    let fd = os::open_overwrite(name);
+    if fd < 0 {
+        return false;
+    }
+    let whole = io::write_all(fd, bytes);
+    libc::close(fd);
+    whole
+}
+
+pub(crate) fn print_refused(r: Refusal) {
     let mut line = [0u8; LINE_ROOM];
     let end = lines::put_refused(r, &mut line, 0);
     io::write_all(STDOUT_FILENO, &line[0..end]);
@@ -54,7 +69,7 @@ pub fn make_book(text: &[u8], people: i32) -> Made
     let mut book = [0u8; TYPED_AREA];
     match rules_book::rules_book(text, &mut book) {
         Written::Bytes(n) => {
-            if files::save(b"words.book", &book[0..n]) {
+            if save(b"words.book", &book[0..n]) {
                 return Made::Saved;
             }
             tell_unsaved(people);

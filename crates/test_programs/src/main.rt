@@ -68,7 +68,7 @@ fn sheet(title: &[u8], book_name: &[u8]) {
     let mut book = [0u8; BOOK_FILE + 1];
     let end = files::read_named(book_name, &mut book);
     say(title);
-    match saved_sheet::make_sheet(&book[0..end]) {
+    match saved::make_sheet(&book[0..end]) {
         Made::Saved => say(b"saved\n"),
         Made::Unsaved => say(b"unsaved\n"),
         Made::Refused(_) => {}

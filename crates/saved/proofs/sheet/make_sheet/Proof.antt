@@ -1,13 +1,13 @@
--- `saved_sheet::make_sheet` meets its contract: what sheet_bytes answers, saved or printed; either lies in the buffer.
+-- `saved::make_sheet` meets its contract: what sheet_bytes answers, saved or printed; either lies in the buffer.
 -- Assumes nothing.
 use native.Mathlib.Omega.{arith}
 use mathlib.Core.Path.{refl, ap}
 use mathlib.Core.Logic.{inl, inr}
 use Rattle.sheet_bytes.specs.Put.{putEnd}
-use Rattle.saved_sheet.specs.Made.{when-sheet, when-line}
+use Rattle.saved.specs.SheetMade.{when-sheet, when-line}
 use borrow.Author.Needs.{needs}
-use Rattle.saved_sheet.proofs.make_sheet.Statement.{statement}
-use Rattle.saved_sheet.proofs.make_sheet.Tie as tie
+use Rattle.saved.proofs.sheet.make_sheet.Statement.{statement}
+use Rattle.saved.proofs.sheet.make_sheet.Tie as tie
 
 slice-aggregate-sheet-bytes : tie.Need-slice-aggregate-sheet-bytes
 slice-aggregate-sheet-bytes c = search needs

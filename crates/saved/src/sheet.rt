@@ -1,9 +1,11 @@
 // What the program sheet does with the bytes of its book: it saves the sheet in words.sheet, or prints the refusal.
 // A refusal leaves words.sheet as it was, since it is opened only when the sheet's bytes are there, as sheet_bytes::sheet_bytes promises them.
-ghost use Rattle.saved_sheet.specs.Made.{MakesSheet};
+ghost use Rattle.saved.specs.SheetMade.{MakesSheet};
+use crate::Made;
+use crate::print_refused;
+use crate::save;
 use libc::STDOUT_FILENO;
 use number::Refusal;
-use saved::Made;
 use sheet_bytes::Put;
 use table::LONGEST_SHEET;
 
@@ -15,10 +17,10 @@ pub fn make_sheet(book: &[u8]) -> Made
     let mut out = [0u8; LONGEST_SHEET];
     match sheet_bytes::sheet_bytes(book, &mut out) {
         Put::Sheet(end) => {
-            if files::save(b"words.sheet", &out[0..end]) {
+            if save(b"words.sheet", &out[0..end]) {
                 return Made::Saved;
             }
-            saved::print_refused(Refusal::Input);
+            print_refused(Refusal::Input);
             Made::Unsaved
         }
         Put::Line(r, end) => {
