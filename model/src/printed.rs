@@ -1,4 +1,4 @@
-//! What the program `walked` has to print for a case: the build, the cut with room for
+//! What the program `test_cases` has to print for a case: the build, the cut with room for
 //! a few words, and the comparison.
 
 use crate::book;

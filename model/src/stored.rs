@@ -1,4 +1,4 @@
-//! The cases that are stored beside the program `walked`: small books, texts and
+//! The cases that are stored beside the program `test_cases`: small books, texts and
 //! sheets, what the program has to print for them, and tables that describe them.
 
 use crate::book;

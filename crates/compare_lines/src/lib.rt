@@ -9,7 +9,6 @@ ghost use Rattle.vector.specs.Layout.{workLength};
 ghost use Rattle.programs.specs.Print.{compareFiles, verdictLines, comparePrint, compareRoom};
 ghost use Rattle.compare_lines.specs.Told.{toldLines, Inside};
 use book::Checked;
-use verdict::Compared;
 use lines::LINE_ROOM;
 use number::Refusal;
 use number::limits::BOOK_FILE;
@@ -19,6 +18,7 @@ use number::limits::STATES;
 use number::limits::TABLE_CELLS;
 use table::Counted;
 use vector::layout::WORK_LENGTH;
+use verdict::Compared;
 
 // A line, and the shown text in two digits a byte with the line's end.
 pub const COMPARE_ROOM: usize = LINE_ROOM + (2 * SHOWN_TEXT + 1);

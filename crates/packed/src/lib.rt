@@ -9,11 +9,11 @@ ghost use Rattle.verdict.specs.Calls.{compared};
 ghost use Rattle.packed.specs.Packed.{left, four, packed, toldCount, toldSize, toldKind, toldReport, toldCompared};
 use book::Checked;
 use book::RuleKind;
-use verdict::Compared;
 use cutting::Ended;
 use number::Refusal;
 use table::Counted;
 use table::Written;
+use verdict::Compared;
 
 // The cells of an answer.
 pub const CELLS: usize = 4;
