@@ -1,5 +1,5 @@
--- What the programs put out, for every input. Definitions, in reading order: Output, the lines of a cut, and Print, all that each program puts out.
--- Main has the theorems that are bought. EnoughLaws, TableLaws and PrintLaws are for the code's crates and for MainLaws, which proves Main's; Sample computes.
+-- What the programs put out, for every input. Definitions, in reading order: Output, the lines of a cut; Print, all that each program puts out; Sample, two texts and their lines.
+-- Main gathers the theorems that are bought; the other files prove them, and EnoughLaws, TableLaws and PrintLaws serve the code's crates too.
 pub mod Output
 pub mod Print
 pub mod EnoughLaws

@@ -21,7 +21,7 @@ MadeOf (gives book) made = (made ≡ Saved) ⊎ (made ≡ Unsaved)
 MadeOf (refuses r) made = made ≡ Refused r
 
 pub record Makes (text : List ℕ) (made : Made) : Type 0 where
-  pub told : MadeOf (rulesBytes text) made
+  pub became : MadeOf (rulesBytes text) made
 
 module _ (text : List ℕ) {out out′ : List ℕ} {w : Written} (m : MakesBook text out w out′) where
   -- a length is told only of a book
@@ -29,7 +29,7 @@ module _ (text : List ℕ) {out out′ : List ℕ} {w : Written} (m : MakesBook 
   when-written n made e s = by-outcome (rulesBytes text) refl
     where
       by-outcome : (x : Outcome (List ℕ)) → rulesBytes text ≡ x → Makes text made
-      by-outcome (gives book) f = record { told = subst (λ y. MadeOf y made) (sym f) s }
+      by-outcome (gives book) f = record { became = subst (λ y. MadeOf y made) (sym f) s }
       by-outcome (refuses r) f =
           let z : _≡_ {A = Outcome ℕ} (gives n) (refuses r) = sym (ap wrote e) ∙ m .answer ∙ ap (λ y. putBook out y .answer) f in
           absurd (let y : _≡_ {A = ℕ} 0 1 = cc in omega arith)
@@ -45,4 +45,4 @@ module _ (text : List ℕ) {out out′ : List ℕ} {w : Written} (m : MakesBook 
       by-outcome (refuses q) f =
           let z : _≡_ {A = Outcome ℕ} (refuses r) (refuses q) = sym (ap wrote e) ∙ m .answer ∙ ap (λ y. putBook out y .answer) f in
           let same : r ≡ q = cc in
-          record { told = subst (λ y. MadeOf y (Refused r)) (sym f) (ap Refused same) }
+          record { became = subst (λ y. MadeOf y (Refused r)) (sym f) (ap Refused same) }

@@ -11,7 +11,7 @@ use Rattle.programs.specs.Print.{sheetOf}
 use Rattle.programs.specs.TableLaws.{no-count, same-refusal}
 use Rattle.sheet_bytes.specs.declared.Put.{Put}
 use Rattle.sheet_bytes.specs.declared.Put.the-variants.{Sheet, Line}
-use Rattle.sheet_bytes.specs.Put.{told, sheetLength, Puts}
+use Rattle.sheet_bytes.specs.Put.{putAnswer, sheetLength, Puts}
 use Rattle.saved.specs.declared.Made.{Made}
 use Rattle.saved.specs.declared.Made.the-variants.{Saved, Unsaved, Refused}
 use Rattle.saved.specs.Made.{MadeOf}
@@ -31,7 +31,7 @@ of-line (refuses q) r e = ap Refused (same-refusal e)
 
 module _ (book : List ℕ) {out out′ : List ℕ} {p : Put} (m : Puts (sheetOf book) out out′ p) where
   pub when-sheet : (end : ℕ) (made : Made) → p ≡ Sheet end → (made ≡ Saved) ⊎ (made ≡ Unsaved) → MakesSheet book made
-  when-sheet end made e s = record { became = of-sheet (sheetOf book) end made (sym (ap told e) ∙ m .which) s }
+  when-sheet end made e s = record { became = of-sheet (sheetOf book) end made (sym (ap putAnswer e) ∙ m .which) s }
 
   pub when-line : (r : Refusal) (end : ℕ) → p ≡ Line r end → MakesSheet book (Refused r)
-  when-line r end e = record { became = of-line (sheetOf book) r (sym (ap told e) ∙ m .which) }
+  when-line r end e = record { became = of-line (sheetOf book) r (sym (ap putAnswer e) ∙ m .which) }
