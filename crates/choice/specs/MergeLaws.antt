@@ -9,7 +9,7 @@ use mathlib.Core.List.{List}
 use borrow.Author.Tests.{eq-eqb, ne-eqb}
 use Rattle.meaning.specs.Re.{Re}
 use Rattle.meaning.specs.Order.{order}
-use Rattle.meaning.specs.Shape.{InShape, isAlt, united}
+use Rattle.meaning.specs.Shape.{InShape, isAlt}
 use Rattle.meaning.specs.ShapeLaws.{headOf, united-less-one, united-less-more, united-same-one, united-same-left, united-same-more, united-greater-one, united-greater-more}
 use Rattle.term.specs.declared.Term.{Term}
 use Rattle.term.specs.declared.Term.the-variants.{Alt}
@@ -39,9 +39,9 @@ alone (Re.Star a) e = refl
 
 pub heads : {s : List ℕ} {i r : ℕ} {u : Term} → Found s i u → r ≡ headAt u i → Heads s i r
 heads {s} {i} {r} {u} f e = elim (ℕ-discrete (kindOf u) 4) [
-    | yes k ↦ left (found-alt f k refl refl) (e ∙ sym (head-first u i k))
-    | no n ↦ self (found-no-alt f n) (e ∙ sym (head-self u i n))
-  ]
+  | yes k ↦ left (found-alt f k refl refl) (e ∙ sym (head-first u i k))
+  | no n ↦ self (found-no-alt f n) (e ∙ sym (head-self u i n))
+]
   where
     left : {x y : ℕ} → Found s i (Alt x y) → r ≡ x → Heads s i r
     left g d = let h = g .below .0 in record { is = ap (term s) d ∙ sym (ap headOf (g .is)); low = omega arith }
