@@ -9,7 +9,7 @@ use mathlib.Core.List.{List}
 use borrow.Author.Tests.{eq-eqb, ne-eqb}
 use Rattle.meaning.specs.Re.{Re}
 use Rattle.meaning.specs.Order.{order}
-use Rattle.meaning.specs.Shape.{InShape, isAlt, united}
+use Rattle.meaning.specs.Shape.{InShape, isAlt}
 use Rattle.meaning.specs.ShapeLaws.{headOf, united-less-one, united-less-more, united-same-one, united-same-left, united-same-more, united-greater-one, united-greater-more}
 use Rattle.term.specs.declared.Term.{Term}
 use Rattle.term.specs.declared.Term.the-variants.{Alt}

@@ -8,7 +8,7 @@ use mathlib.Core.List.{List}
 use lib.ListN.{length}
 use Rattle.meaning.specs.Re.{Re, isNothing}
 use Rattle.meaning.specs.Normal.{alt}
-use Rattle.meaning.specs.Shape.{InShape, isAlt, united}
+use Rattle.meaning.specs.Shape.{InShape, united}
 use Rattle.meaning.specs.ShapeLaws.{alt-united, alt-members, alt-nothing-left, alt-nothing-right, united-members}
 use Rattle.meaning.specs.Tests.{is-nothing}
 use Rattle.term.specs.Cells.{term, Sound}

@@ -22,10 +22,10 @@ use Rattle.meaning.specs.SizeLaws.{spine, size-some, short-size, short-members,
 use Rattle.term.specs.declared.Term.{Term}
 use Rattle.term.specs.declared.Term.the-variants.{Nothing, Empty, Range, Cat, Alt, Star}
 use Rattle.term.specs.Cells.{grow, term, Below, Sound}
-use Rattle.term.specs.Area.{Grown}
-use Rattle.term.specs.Nodes.{Found}
+use Rattle.term.specs.Area.{Room, Grown}
+use Rattle.term.specs.Nodes.{kindOf, firstOf, Found}
 use Rattle.term.specs.CellLaws.{sound-less, grown-refl, grown-trans, grown-term}
-use Rattle.term.specs.ReadLaws.{cat-size, alt-size, star-size}
+use Rattle.term.specs.ReadLaws.{first-below, first-size, cat-size, alt-size, star-size}
 use Rattle.normal.specs.declared.Made.{Made}
 use Rattle.normal.specs.declared.Made.the-variants.{Term as Made·term, Long as Made·long}
 use Rattle.normal.specs.Made.{MadeBy}
@@ -34,7 +34,7 @@ use Rattle.normal.specs.ChainLaws.{cat-few, cat-idle-left}
 use Rattle.normal.specs.AnswerLaws.{Got, long-is, made-term, made-after, long-after}
 use Rattle.choice.specs.Asked.{members, mostMembers, altCells, ShortChoices}
 use Rattle.choice.specs.UniteLaws.{alt-few, alt-idle-left}
-use Rattle.derivative.specs.Derives.{derivRoom, derivCells, Derives, rangeLeft}
+use Rattle.derivative.specs.Derives.{derivRoom, derivCells, Derives, rangeLeft, leafLeft}
 
 -- ---- the limited derivative is short
 
@@ -76,10 +76,10 @@ fits-short : (f : Fit) (v : Re) → Short f → f ≡ Fits v → short v ≡ tru
 fits-short f v h e = rw e at h
 
 -- so a derivative that fits is short, and in shape where its term is
-pub derived-short : (c : ℕ) (r v : Re) → derivFit c r ≡ Fits v → short v ≡ true
+derived-short : (c : ℕ) (r v : Re) → derivFit c r ≡ Fits v → short v ≡ true
 derived-short c r v e = fits-short (derivFit c r) v (deriv-is-short c r) e
 
-pub derived-shape : (c : ℕ) (r v : Re) → InShape r → derivFit c r ≡ Fits v → InShape v
+derived-shape : (c : ℕ) (r v : Re) → InShape r → derivFit c r ≡ Fits v → InShape v
 derived-shape c r v s e = rw (deriv-short c r v e) (shape-deriv c r s)
 
 fit-value : (v w : Re) → fit v ≡ Fits w → w ≡ v
@@ -167,7 +167,7 @@ two-steps v b w z e s t sv sw sz m n = go (isNothing v) (isEmpty v) refl refl
           short-members z sz,
         )
 
--- ---- a part of a held term
+-- ---- a term without parts
 
 range-grown : (s : List ℕ) (b : Bool) → grow (cond b Empty Nothing) (term s) ≡ cond b Re.Empty Re.Nothing
 range-grown s true = refl
@@ -176,6 +176,42 @@ range-grown s false = refl
 range-fits : (s : List ℕ) (c lo hi : ℕ) (u : Term) → u ≡ rangeLeft lo hi c → Fits (grow u (term s)) ≡ derivFit c (Re.Range lo hi)
 unfolding derivFit deriv
 range-fits s c lo hi u e = rw e (ap Fits (range-grown s (leb lo c && leb c hi)))
+
+leaf-fits : (s : List ℕ) (c : ℕ) (u w : Term) → kindOf u < 3 → w ≡ leafLeft u c → Fits (grow w (term s)) ≡ derivFit c (grow u (term s))
+unfolding derivFit
+leaf-fits s c Nothing w h e = rw e
+leaf-fits s c Empty w h e = rw e
+leaf-fits s c (Range lo hi) w h e = range-fits s c lo hi w e
+leaf-fits s c (Cat a b) w h e = absurd (omega arith)
+leaf-fits s c (Alt a b) w h e = absurd (omega arith)
+leaf-fits s c (Star a) w h e = absurd (omega arith)
+
+leaf-below : (top c : ℕ) (u w : Term) → kindOf u < 3 → w ≡ leafLeft u c → Below w top
+leaf-below top c Nothing w h e = rw e tt
+leaf-below top c Empty w h e = rw e tt
+leaf-below top c (Range lo hi) w h e = rw e (by-cond (λ v. Below v top) (leb lo c && leb c hi) (λ _. tt) (λ _. tt))
+leaf-below top c (Cat a b) w h e = absurd (omega arith)
+leaf-below top c (Alt a b) w h e = absurd (omega arith)
+leaf-below top c (Star a) w h e = absurd (omega arith)
+
+-- ---- a part of a held term
+
+first-shape : (s : List ℕ) (i : ℕ) (u : Term) → Found s i u → 2 < kindOf u → (a : ℕ) → a ≡ firstOf u → InShape (term s i) → InShape (term s a)
+first-shape s i Nothing f h a e t = absurd (omega arith)
+first-shape s i Empty f h a e t = absurd (omega arith)
+first-shape s i (Range lo hi) f h a e t = absurd (omega arith)
+first-shape s i (Cat l r) f h a e t = let w : InShape (Re.Cat (term s l) (term s r)) = rw (f .is) at t in rw e (w .0)
+first-shape s i (Alt l r) f h a e t = let w : InShape (Re.Alt (term s l) (term s r)) = rw (f .is) at t in rw e (w .0)
+first-shape s i (Star l) f h a e t = let w : InShape (Re.Star (term s l)) = rw (f .is) at t in rw e (w .0)
+
+first-is-long : (c : ℕ) (s : List ℕ) (i : ℕ) (u : Term) → Found s i u → 2 < kindOf u → (a : ℕ) → a ≡ firstOf u → derivFit c (term s a) ≡ Long
+    → derivFit c (term s i) ≡ Long
+first-is-long c s i Nothing f h a e x = absurd (omega arith)
+first-is-long c s i Empty f h a e x = absurd (omega arith)
+first-is-long c s i (Range lo hi) f h a e x = absurd (omega arith)
+first-is-long c s i (Cat l r) f h a e x = ap (derivFit c) (f .is) ∙ cat-long-1 c (term s l) (term s r) (rw e at x)
+first-is-long c s i (Alt l r) f h a e x = ap (derivFit c) (f .is) ∙ alt-long-1 c (term s l) (term s r) (rw e at x)
+first-is-long c s i (Star l) f h a e x = ap (derivFit c) (f .is) ∙ star-long-1 c (term s l) (rw e at x)
 
 part-short : (r x : Re) → short r ≡ true → size x ≤ size r → short x ≡ true
 part-short r x e h = le-leb (size x) treeNodes (omega (arith, short-size r e))
@@ -189,20 +225,46 @@ cells-of : (r : Re) (n : ℕ) → size r ≡ n → derivCells r ≡ (mostMembers
 unfolding derivCells
 cells-of r n e = rw e
 
-pub room-size : (r : Re) → derivRoom r ≡ (mostMembers + 1) * size r
+room-size : (r : Re) → derivRoom r ≡ (mostMembers + 1) * size r
 room-size r = room-of r (size r) refl
 
-pub cells-size : (r : Re) → derivCells r ≡ (mostMembers + 1) * size r - mostMembers
+cells-size : (r : Re) → derivCells r ≡ (mostMembers + 1) * size r - mostMembers
 cells-size r = cells-of r (size r) refl
 
--- the most that a short term needs
-pub room-short : (r : Re) → short r ≡ true → derivRoom r ≤ (mostMembers + 1) * treeNodes
-room-short r e = omega (arith, room-size r, short-size r e)
+-- a term's room is mostMembers more than its cells, and these are more than those of its parts together
+room-cells : (r : Re) → derivRoom r ≡ derivCells r + mostMembers
+room-cells r = omega (arith, room-size r, cells-size r, size-some r)
+
+cells-some : (r : Re) → 1 ≤ derivCells r
+cells-some r = omega (arith, cells-size r, size-some r)
+
+part-cells : (r x : Re) → size x < size r → derivCells x + mostMembers + 1 ≤ derivCells r
+part-cells r x h = omega (arith, cells-size r, cells-size x, size-some x)
+
+two-cells : (r x y : Re) → size r ≡ 1 + size x + size y → derivCells r ≡ derivCells x + derivCells y + 2 * mostMembers + 1
+two-cells r x y e = omega (arith, cells-size r, cells-size x, cells-size y, size-some x, size-some y)
+
+-- two derivatives that fit, to choose from
+short-choices : {s : List ℕ} {top a b : ℕ} (x y : Re) → Sound s top → a < top → b < top → term s a ≡ x → term s b ≡ y → InShape x → InShape y
+    → short x ≡ true → short y ≡ true → Room s top (2 * mostMembers) → ShortChoices s top a b
+short-choices x y ok h k p q t u v w m =
+    record {
+      choices = record {
+        sound = ok;
+        left = h;
+        right = k;
+        left-shape = rw p t;
+        right-shape = rw q u;
+        room = omega (arith, m, ap members p, ap members q, short-members x v, short-members y w);
+      };
+      left-short = rw p v;
+      right-short = rw q w;
+    }
 
 module _ {s : List ℕ} {top i : ℕ} (d : Derives s top i) where
   -- a part, after some growth
   later : {s′ : List ℕ} {top′ : ℕ} (used a : ℕ) → Grown s top s′ top′ → top′ ≤ top + used → a < i → InShape (term s a)
-      → size (term s a) ≤ size (term s i) → used + derivRoom (term s a) ≤ derivRoom (term s i) → Derives s′ top′ a
+      → size (term s a) ≤ size (term s i) → used + derivCells (term s a) ≤ derivCells (term s i) → Derives s′ top′ a
   later {s′} {top′} used a g h k t l m =
       let up = g .up in
       let held = d .held in
@@ -212,45 +274,36 @@ module _ {s : List ℕ} {top i : ℕ} (d : Derives s top i) where
         held = omega arith;
         in-shape = rw same t;
         is-short = rw same (part-short (term s i) (term s a) (d .is-short) l);
-        room = rw same (omega (arith, d .room, g .same-length));
+        room = rw same (omega (arith, d .room, g .same-length, room-cells (term s a), room-cells (term s i)));
       }
 
-  first-part : (a : ℕ) → a < i → InShape (term s a) → size (term s a) ≤ size (term s i) → Derives s top a
-  first-part a k t l =
-      later 0 a (grown-refl (d .sound)) (omega arith) k t l (omega (arith, room-size (term s a), room-size (term s i)))
+  module _ {u : Term} (f : Found s i u) where
+    -- a term without parts
+    module _ (k : kindOf u < 3) (c : ℕ) {w : Term} (e : w ≡ leafLeft u c) where
+      pub leaf-asks : Sound s top × ((top < length s) × Below w top)
+      leaf-asks = (d .sound, (omega (arith, d .room, room-cells (term s i), cells-some (term s i)), leaf-below top c u w k e))
 
-  -- a leaf
-  pub leaf-asks : Sound s top × ((top < length s) × Unit {0})
-  leaf-asks = (d .sound, (omega (arith, d .room, room-size (term s i), size-some (term s i)), tt))
+      pub leaf-up : {s′ : List ℕ} {r : Made} → MadeBy s top s′ r (Fits (grow w (term s))) 1
+          → MadeBy s top s′ r (derivFit c (term s i)) (derivCells (term s i))
+      leaf-up m =
+          made-after 0 (derivCells (term s i)) (derivFit c (term s i)) (grown-refl (d .sound)) (omega arith) m
+          (leaf-fits s c u w k e ∙ sym (ap (derivFit c) (f .is))) (omega (arith, cells-some (term s i)))
 
-  pub range-asks : {u : Term} (lo hi byte : ℕ) → u ≡ rangeLeft lo hi byte → Sound s top × ((top < length s) × Below u top)
-  range-asks {u} lo hi byte e = (
-    d .sound,
-    (
-      omega (arith, d .room, room-size (term s i), size-some (term s i)),
-      rw e (by-cond (λ v. Below v top) (leb lo byte && leb byte hi) (λ _. tt) (λ _. tt)),
-    ),
-  )
+    -- the first part, or the only one
+    module _ (k : 2 < kindOf u) {a : ℕ} (e : a ≡ firstOf u) where
+      first-fewer : derivCells (term s a) + mostMembers + 1 ≤ derivCells (term s i)
+      first-fewer = part-cells (term s i) (term s a) (first-size s i u f k a e)
 
-  leaf-up : (c : ℕ) (f : Fit) → f ≡ derivFit c (term s i) → {s′ : List ℕ} {r : Made} → MadeBy s top s′ r f 1
-      → MadeBy s top s′ r (derivFit c (term s i)) (derivCells (term s i))
-  leaf-up c f e m =
-      made-after 0 (derivCells (term s i)) (derivFit c (term s i)) (grown-refl (d .sound)) (omega arith) m e
-      (omega (arith, cells-size (term s i), size-some (term s i)))
+      pub first-asks : Derives s top a
+      first-asks =
+          later 0 a (grown-refl (d .sound)) (omega arith) (omega (arith, first-below f k)) (first-shape s i u f k a e (d .in-shape))
+          (omega (arith, first-size s i u f k a e)) (omega (arith, first-fewer))
 
-  pub nothing-up : (c : ℕ) → Found s i Nothing → {s′ : List ℕ} {r : Made} → MadeBy s top s′ r (Fits Re.Nothing) 1
-      → MadeBy s top s′ r (derivFit c (term s i)) (derivCells (term s i))
-  unfolding derivFit
-  nothing-up c f m = leaf-up c (Fits Re.Nothing) (sym (ap (derivFit c) (f .is))) m
-
-  pub empty-up : (c : ℕ) → Found s i Empty → {s′ : List ℕ} {r : Made} → MadeBy s top s′ r (Fits Re.Nothing) 1
-      → MadeBy s top s′ r (derivFit c (term s i)) (derivCells (term s i))
-  unfolding derivFit
-  empty-up c f m = leaf-up c (Fits Re.Nothing) (sym (ap (derivFit c) (f .is))) m
-
-  pub range-up : (c lo hi : ℕ) → Found s i (Range lo hi) → {u : Term} → u ≡ rangeLeft lo hi c → {s′ : List ℕ} {r : Made}
-      → MadeBy s top s′ r (Fits (grow u (term s))) 1 → MadeBy s top s′ r (derivFit c (term s i)) (derivCells (term s i))
-  range-up c lo hi f {u} e m = leaf-up c (Fits (grow u (term s))) (range-fits s c lo hi u e ∙ sym (ap (derivFit c) (f .is))) m
+      pub first-long : (c : ℕ) {s₁ : List ℕ} {r : Made} → MadeBy s top s₁ r (derivFit c (term s a)) (derivCells (term s a)) → r ≡ Made·long
+          → MadeBy s top s₁ Made·long (derivFit c (term s i)) (derivCells (term s i))
+      first-long c m x =
+          long-after 0 (derivCells (term s i)) (derivFit c (term s i)) (grown-refl (d .sound)) (omega arith) m x
+          (first-is-long c s i u f k a e (long-is m x)) (omega (arith, first-fewer))
 
   -- ---- Cat
 
@@ -261,15 +314,8 @@ module _ {s : List ℕ} {top i : ℕ} (d : Derives s top i) where
     cat-is : derivFit c (term s i) ≡ derivFit c (Re.Cat (term s a) (term s b))
     cat-is = ap (derivFit c) (f .is)
 
-    pub cat-left : Derives s top a
-    cat-left = first-part a (f .below .0) (cat-shape .0) (omega (arith, cat-size s i a b f))
-
-    pub cat-left-long : {s₁ : List ℕ} {r : Made} → MadeBy s top s₁ r (derivFit c (term s a)) (derivCells (term s a)) → r ≡ Made·long
-        → MadeBy s top s₁ Made·long (derivFit c (term s i)) (derivCells (term s i))
-    cat-left-long m e =
-        long-after 0 (derivCells (term s i)) (derivFit c (term s i)) (grown-refl (d .sound)) (omega arith) m e
-        (cat-is ∙ cat-long-1 c (term s a) (term s b) (long-is m e))
-        (omega (arith, cat-size s i a b f, cells-size (term s a), cells-size (term s i)))
+    cat-cells : derivCells (term s i) ≡ derivCells (term s a) + derivCells (term s b) + 2 * mostMembers + 1
+    cat-cells = two-cells (term s i) (term s a) (term s b) (cat-size s i a b f)
 
     -- the first side's derivative is there
     module _ {s₁ : List ℕ} {da first : ℕ} (g : Got s top s₁ da first (derivFit c (term s a)) (derivCells (term s a))) where
@@ -295,10 +341,8 @@ module _ {s : List ℕ} {top i : ℕ} (d : Derives s top i) where
               g .makes .few,
               g .makes .grown .same-length,
               d .room,
-              cells-size (term s a),
-              room-size (term s i),
-              cat-size s i a b f,
-              size-some (term s a),
+              room-cells (term s i),
+              cat-cells,
             );
           }
 
@@ -317,7 +361,7 @@ module _ {s : List ℕ} {top i : ℕ} (d : Derives s top i) where
       cat-middle-long m e =
           long-after (derivCells (term s a)) (derivCells (term s i)) (derivFit c (term s i)) (g .makes .grown) (g .makes .few) m e
           (cat-is ∙ cat-long-2 c (term s a) (term s b) (g .value) (g .fits) (sym middle-is ∙ long-is m e))
-          (omega (arith, middle-cells, middle-few, cat-size s i a b f, cells-size (term s a), cells-size (term s i), size-some (term s a)))
+          (omega (arith, middle-cells, middle-few, cat-cells))
 
       -- and so is the Cat
       module _ {s₂ : List ℕ} {left second : ℕ}
@@ -352,7 +396,7 @@ module _ {s : List ℕ} {top i : ℕ} (d : Derives s top i) where
             made-after (derivCells (term s a)) (derivCells (term s i)) (derivFit c (term s i)) (g .makes .grown) (g .makes .few)
             (made-term (fit (cat (term s₁ da) (term s₁ b))) (catCells (term s₁ da) (term s₁ b)) (h .makes) (h .fits) (omega arith))
             (h .fits ∙ sym (cat-is ∙ cat-fits c (term s a) (term s b) (g .value) (g .fits) (h .value) left-fits e))
-            (omega (arith, middle-cells, middle-few, cat-size s i a b f, cells-size (term s a), cells-size (term s i), size-some (term s a)))
+            (omega (arith, middle-cells, middle-few, cat-cells))
 
         b-stays-2 : term s₂ b ≡ term s b
         b-stays-2 = grown-term b grown-2 (d .sound) (omega (arith, f .below .1, d .held))
@@ -361,15 +405,7 @@ module _ {s : List ℕ} {top i : ℕ} (d : Derives s top i) where
         cat-right =
             later (derivCells (term s a) + catCells (g .value) (term s b)) b grown-2 few-2 (f .below .1) (cat-shape .1)
             (omega (arith, cat-size s i a b f))
-            (omega (
-              arith,
-              middle-few,
-              cat-size s i a b f,
-              cells-size (term s a),
-              room-size (term s b),
-              room-size (term s i),
-              size-some (term s a),
-            ))
+            (omega (arith, middle-few, cat-cells))
 
         pub cat-right-long : nullable (term s a) ≡ true → {s₃ : List ℕ} {r : Made}
             → MadeBy s₂ second s₃ r (derivFit c (term s₂ b)) (derivCells (term s₂ b)) → r ≡ Made·long
@@ -378,17 +414,7 @@ module _ {s : List ℕ} {top i : ℕ} (d : Derives s top i) where
             long-after (derivCells (term s a) + catCells (g .value) (term s b)) (derivCells (term s i)) (derivFit c (term s i)) grown-2 few-2 m e
             (cat-is ∙ cat-long-3 c (term s a) (term s b) (g .value) (g .fits) (h .value) left-fits t
             (sym (ap (derivFit c) b-stays-2) ∙ long-is m e))
-            (omega (
-              arith,
-              middle-few,
-              ap derivCells b-stays-2,
-              cat-size s i a b f,
-              cells-size (term s a),
-              cells-size (term s b),
-              cells-size (term s i),
-              size-some (term s a),
-              size-some (term s b),
-            ))
+            (omega (arith, middle-few, ap derivCells b-stays-2, cat-cells))
 
         -- and the second side's derivative
         module _ {s₃ : List ℕ} {db third : ℕ} (k : Got s₂ second s₃ db third (derivFit c (term s₂ b)) (derivCells (term s₂ b))) where
@@ -409,35 +435,9 @@ module _ {s : List ℕ} {top i : ℕ} (d : Derives s top i) where
 
           pub cat-last : ShortChoices s₃ third left db
           cat-last =
-              record {
-                choices = record {
-                  sound = k .makes .grown .sound;
-                  left = omega (arith, h .makes .within, k .makes .grown .up);
-                  right = k .makes .within;
-                  left-shape = rw left-stays left-shape;
-                  right-shape = rw (k .makes .is) db-shape;
-                  room = omega (
-                    arith,
-                    ap members left-stays,
-                    ap members (k .makes .is),
-                    short-members (h .value) left-short,
-                    short-members (k .value) db-short,
-                    few-3,
-                    middle-few,
-                    k .makes .grown .same-length,
-                    grown-2 .same-length,
-                    d .room,
-                    cells-size (term s a),
-                    cells-size (term s b),
-                    room-size (term s i),
-                    cat-size s i a b f,
-                    size-some (term s a),
-                    size-some (term s b),
-                  );
-                };
-                left-short = rw left-stays left-short;
-                right-short = rw (k .makes .is) db-short;
-              }
+              short-choices (h .value) (k .value) (k .makes .grown .sound) (omega (arith, h .makes .within, k .makes .grown .up)) (k .makes .within)
+              left-stays (k .makes .is) left-shape db-shape left-short db-short
+              (omega (arith, few-3, middle-few, k .makes .grown .same-length, grown-2 .same-length, d .room, room-cells (term s i), cat-cells))
 
           last-cells : altCells (term s₃ left) (term s₃ db) ≡ altCells (h .value) (k .value)
           last-cells = cc (left-stays, k .makes .is)
@@ -457,12 +457,7 @@ module _ {s : List ℕ} {top i : ℕ} (d : Derives s top i) where
                 last-cells,
                 two-steps (g .value) (term s b) (h .value) (k .value) left-is left-shape db-shape da-short left-short db-short
                     (cat-shape .2 .right-some) (cat-shape .2 .right-long),
-                cat-size s i a b f,
-                cells-size (term s a),
-                cells-size (term s b),
-                cells-size (term s i),
-                size-some (term s a),
-                size-some (term s b),
+                cat-cells,
               ))
 
   -- ---- Alt
@@ -474,15 +469,8 @@ module _ {s : List ℕ} {top i : ℕ} (d : Derives s top i) where
     alt-is : derivFit c (term s i) ≡ derivFit c (Re.Alt (term s a) (term s b))
     alt-is = ap (derivFit c) (f .is)
 
-    pub alt-left : Derives s top a
-    alt-left = first-part a (f .below .0) (alt-shape .0) (omega (arith, alt-size s i a b f))
-
-    pub alt-left-long : {s₁ : List ℕ} {r : Made} → MadeBy s top s₁ r (derivFit c (term s a)) (derivCells (term s a)) → r ≡ Made·long
-        → MadeBy s top s₁ Made·long (derivFit c (term s i)) (derivCells (term s i))
-    alt-left-long m e =
-        long-after 0 (derivCells (term s i)) (derivFit c (term s i)) (grown-refl (d .sound)) (omega arith) m e
-        (alt-is ∙ alt-long-1 c (term s a) (term s b) (long-is m e))
-        (omega (arith, alt-size s i a b f, cells-size (term s a), cells-size (term s i)))
+    alt-cells : derivCells (term s i) ≡ derivCells (term s a) + derivCells (term s b) + 2 * mostMembers + 1
+    alt-cells = two-cells (term s i) (term s a) (term s b) (alt-size s i a b f)
 
     module _ {s₁ : List ℕ} {da first : ℕ} (g : Got s top s₁ da first (derivFit c (term s a)) (derivCells (term s a))) where
       b-kept : term s₁ b ≡ term s b
@@ -491,39 +479,30 @@ module _ {s : List ℕ} {top i : ℕ} (d : Derives s top i) where
       pub alt-right : Derives s₁ first b
       alt-right =
           later (derivCells (term s a)) b (g .makes .grown) (g .makes .few) (f .below .1) (alt-shape .1) (omega (arith, alt-size s i a b f))
-          (omega (arith, alt-size s i a b f, cells-size (term s a), room-size (term s b), room-size (term s i)))
+          (omega (arith, alt-cells))
 
       pub alt-right-long : {s₂ : List ℕ} {r : Made} → MadeBy s₁ first s₂ r (derivFit c (term s₁ b)) (derivCells (term s₁ b)) → r ≡ Made·long
           → MadeBy s top s₂ Made·long (derivFit c (term s i)) (derivCells (term s i))
       alt-right-long m e =
           long-after (derivCells (term s a)) (derivCells (term s i)) (derivFit c (term s i)) (g .makes .grown) (g .makes .few) m e
           (alt-is ∙ alt-long-2 c (term s a) (term s b) (g .value) (g .fits) (sym (ap (derivFit c) b-kept) ∙ long-is m e))
-          (omega (
-            arith,
-            ap derivCells b-kept,
-            alt-size s i a b f,
-            cells-size (term s a),
-            cells-size (term s b),
-            cells-size (term s i),
-            size-some (term s a),
-            size-some (term s b),
-          ))
+          (omega (arith, ap derivCells b-kept, alt-cells))
 
       module _ {s₂ : List ℕ} {db second : ℕ} (h : Got s₁ first s₂ db second (derivFit c (term s₁ b)) (derivCells (term s₁ b))) where
         right-fits : derivFit c (term s b) ≡ Fits (h .value)
         right-fits = sym (ap (derivFit c) b-kept) ∙ h .fits
 
-        first-short : short (g .value) ≡ true
-        first-short = derived-short c (term s a) (g .value) (g .fits)
+        one-short : short (g .value) ≡ true
+        one-short = derived-short c (term s a) (g .value) (g .fits)
 
-        second-short : short (h .value) ≡ true
-        second-short = derived-short c (term s b) (h .value) right-fits
+        other-short : short (h .value) ≡ true
+        other-short = derived-short c (term s b) (h .value) right-fits
 
-        first-shape : InShape (g .value)
-        first-shape = derived-shape c (term s a) (g .value) (alt-shape .0) (g .fits)
+        one-shape : InShape (g .value)
+        one-shape = derived-shape c (term s a) (g .value) (alt-shape .0) (g .fits)
 
-        second-shape : InShape (h .value)
-        second-shape = derived-shape c (term s b) (h .value) (alt-shape .1) right-fits
+        other-shape : InShape (h .value)
+        other-shape = derived-shape c (term s b) (h .value) (alt-shape .1) right-fits
 
         da-stays : term s₂ da ≡ g .value
         da-stays = grown-term da (h .makes .grown) (g .makes .grown .sound) (g .makes .within) ∙ g .makes .is
@@ -533,34 +512,9 @@ module _ {s : List ℕ} {top i : ℕ} (d : Derives s top i) where
 
         pub alt-last : ShortChoices s₂ second da db
         alt-last =
-            record {
-              choices = record {
-                sound = h .makes .grown .sound;
-                left = omega (arith, g .makes .within, h .makes .grown .up);
-                right = h .makes .within;
-                left-shape = rw da-stays first-shape;
-                right-shape = rw (h .makes .is) second-shape;
-                room = omega (
-                  arith,
-                  ap members da-stays,
-                  ap members (h .makes .is),
-                  short-members (g .value) first-short,
-                  short-members (h .value) second-short,
-                  few-both,
-                  h .makes .grown .same-length,
-                  g .makes .grown .same-length,
-                  d .room,
-                  cells-size (term s a),
-                  cells-size (term s b),
-                  room-size (term s i),
-                  alt-size s i a b f,
-                  size-some (term s a),
-                  size-some (term s b),
-                );
-              };
-              left-short = rw da-stays first-short;
-              right-short = rw (h .makes .is) second-short;
-            }
+            short-choices (g .value) (h .value) (h .makes .grown .sound) (omega (arith, g .makes .within, h .makes .grown .up)) (h .makes .within)
+            da-stays (h .makes .is) one-shape other-shape one-short other-short
+            (omega (arith, few-both, h .makes .grown .same-length, g .makes .grown .same-length, d .room, room-cells (term s i), alt-cells))
 
         both-cells : altCells (term s₂ da) (term s₂ db) ≡ altCells (g .value) (h .value)
         both-cells = cc (da-stays, h .makes .is)
@@ -578,35 +532,20 @@ module _ {s : List ℕ} {top i : ℕ} (d : Derives s top i) where
             (omega (
               arith,
               both-cells,
-              alt-few (g .value) (h .value) first-shape second-shape,
-              short-members (g .value) first-short,
-              short-members (h .value) second-short,
-              alt-size s i a b f,
-              cells-size (term s a),
-              cells-size (term s b),
-              cells-size (term s i),
-              size-some (term s a),
-              size-some (term s b),
+              alt-few (g .value) (h .value) one-shape other-shape,
+              short-members (g .value) one-short,
+              short-members (h .value) other-short,
+              alt-cells,
             ))
 
   -- ---- Star
 
   module _ (c : ℕ) {a : ℕ} (f : Found s i (Star a)) where
-    star-shape : InShape (Re.Star (term s a))
-    star-shape = rw (f .is) at (d .in-shape)
-
     star-is : derivFit c (term s i) ≡ derivFit c (Re.Star (term s a))
     star-is = ap (derivFit c) (f .is)
 
-    pub star-left : Derives s top a
-    star-left = first-part a (f .below) (star-shape .0) (omega (arith, star-size s i a f))
-
-    pub star-left-long : {s₁ : List ℕ} {r : Made} → MadeBy s top s₁ r (derivFit c (term s a)) (derivCells (term s a)) → r ≡ Made·long
-        → MadeBy s top s₁ Made·long (derivFit c (term s i)) (derivCells (term s i))
-    star-left-long m e =
-        long-after 0 (derivCells (term s i)) (derivFit c (term s i)) (grown-refl (d .sound)) (omega arith) m e
-        (star-is ∙ star-long-1 c (term s a) (long-is m e))
-        (omega (arith, star-size s i a f, cells-size (term s a), cells-size (term s i)))
+    star-cells : derivCells (term s a) + mostMembers + 1 ≤ derivCells (term s i)
+    star-cells = part-cells (term s i) (term s a) (omega (arith, star-size s i a f))
 
     module _ {s₁ : List ℕ} {da first : ℕ} (g : Got s top s₁ da first (derivFit c (term s a)) (derivCells (term s a))) where
       part-is-short : short (g .value) ≡ true
@@ -625,10 +564,8 @@ module _ {s : List ℕ} {top i : ℕ} (d : Derives s top i) where
               g .makes .few,
               g .makes .grown .same-length,
               d .room,
-              cells-size (term s a),
-              room-size (term s i),
-              star-size s i a f,
-              size-some (term s a),
+              room-cells (term s i),
+              star-cells,
             );
           }
 
@@ -643,12 +580,4 @@ module _ {s : List ℕ} {top i : ℕ} (d : Derives s top i) where
           let cells : catCells (term s₁ da) (term s₁ i) ≡ catCells (g .value) (Re.Star (term s a)) = cc (g .makes .is, star-stays) in
           made-after (derivCells (term s a)) (derivCells (term s i)) (derivFit c (term s i)) (g .makes .grown) (g .makes .few) m
           (is ∙ star-fits c (term s a) (g .value) (g .fits) ∙ sym star-is)
-          (omega (
-            arith,
-            cat-few (g .value) (Re.Star (term s a)),
-            short-spine (g .value) part-is-short,
-            star-size s i a f,
-            cells-size (term s a),
-            cells-size (term s i),
-            size-some (term s a),
-          ))
+          (omega (arith, cat-few (g .value) (Re.Star (term s a)), short-spine (g .value) part-is-short, star-cells))

@@ -9,7 +9,7 @@ use Rattle.meaning.specs.Re.{Re, size}
 use Rattle.meaning.specs.Limited.{short, derivFit}
 use Rattle.meaning.specs.Shape.{InShape}
 use Rattle.term.specs.declared.Term.{Term}
-use Rattle.term.specs.declared.Term.the-variants.{Nothing, Empty}
+use Rattle.term.specs.declared.Term.the-variants.{Nothing, Empty, Range, Cat, Alt, Star}
 use Rattle.term.specs.Cells.{term, Sound}
 use Rattle.term.specs.Area.{Room}
 use Rattle.normal.specs.declared.Made.{Made}
@@ -33,6 +33,15 @@ pub record Derives (s : List ℕ) (top i : ℕ) : Type 0 where
 -- what a range leaves after a byte
 abbrev pub rangeLeft : ℕ → ℕ → ℕ → Term
 rangeLeft lo hi byte = cond (leb lo byte && leb byte hi) Empty Nothing
+
+-- and a term without parts
+abbrev pub leafLeft : Term → ℕ → Term
+leafLeft Nothing byte = Nothing
+leafLeft Empty byte = Nothing
+leafLeft (Range lo hi) byte = rangeLeft lo hi byte
+leafLeft (Cat a b) byte = Nothing
+leafLeft (Alt a b) byte = Nothing
+leafLeft (Star a) byte = Nothing
 
 abbrev pub Derived : List ℕ → ℕ → ℕ → ℕ → List ℕ → Made → Type 0
 Derived s top i byte s′ r = MadeBy s top s′ r (derivFit byte (term s i)) (derivCells (term s i))

@@ -5,13 +5,21 @@ ghost use Prim.Native.Nat.{_+_, _≤_, min};
 ghost use Rattle.number.specs.Limits.{lastByte};
 ghost use Rattle.meaning.specs.Edges.{nextEdge};
 ghost use Rattle.term.specs.Cells.{term, Sound};
-ghost use Rattle.derivative.specs.Derives.{Derives, rangeLeft, Derived};
+ghost use Rattle.derivative.specs.Derives.{Derives, rangeLeft, leafLeft, Derived};
 use choice::alt_short;
 use normal::Made;
 use normal::cat_fit;
 use normal::leaf;
 use number::limits::BYTES;
+use term::ALT;
+use term::CAT;
+use term::STAR;
 use term::Term;
+use term::first_of;
+use term::kind_of;
+use term::node_at;
+use term::nullable;
+use term::second_of;
 
 // What a range leaves to match after a byte.
 fn read_range(lo: usize, hi: usize, byte: usize) -> Term
@@ -26,47 +34,54 @@ fn read_range(lo: usize, hi: usize, byte: usize) -> Term
     Term::Empty
 }
 
+// What a term without parts leaves.
+fn leaf_left(node: Term, byte: usize) -> Term
+    ensures { λ r. ⌜ r ≡ leafLeft node byte ⌝ }
+{
+    match node {
+        Term::Nothing => Term::Nothing,
+        Term::Empty => Term::Nothing,
+        Term::Range(lo, hi) => read_range(lo, hi, byte),
+        Term::Cat(_, _) => Term::Nothing,
+        Term::Alt(_, _) => Term::Nothing,
+        Term::Star(_) => Term::Nothing,
+    }
+}
+
 // The derivative of a term by a byte. That of the second side of a Cat is worked out only where the first matches the empty text.
 pub fn derive(cells: &mut [u64], top: usize, i: usize, byte: usize) -> Made
     requires { ⌜ Derives (now cells) top i ⌝ }
     ensures { λ r. ⌜ Derived (now (cells .entry)) top i byte (now (cells .exit)) r ⌝ }
 {
-    let node = term::node_at(cells, i);
-    match node {
-        Term::Nothing => leaf(cells, top, Term::Nothing),
-        Term::Empty => leaf(cells, top, Term::Nothing),
-        Term::Range(lo, hi) => leaf(cells, top, read_range(lo, hi, byte)),
-        Term::Cat(a, b) => {
-            let Made::Term(da, first) = derive(cells, top, a, byte) else {
-                return Made::Long;
-            };
-            let Made::Term(left, second) = cat_fit(cells, first, da, b) else {
-                return Made::Long;
-            };
-            if term::nullable(cells, a) {
-                let Made::Term(db, third) = derive(cells, second, b, byte) else {
-                    return Made::Long;
-                };
-                return alt_short(cells, third, left, db);
-            }
-            Made::Term(left, second)
-        }
-        Term::Alt(a, b) => {
-            let Made::Term(da, first) = derive(cells, top, a, byte) else {
-                return Made::Long;
-            };
-            let Made::Term(db, second) = derive(cells, first, b, byte) else {
-                return Made::Long;
-            };
-            alt_short(cells, second, da, db)
-        }
-        Term::Star(a) => {
-            let Made::Term(da, first) = derive(cells, top, a, byte) else {
-                return Made::Long;
-            };
-            cat_fit(cells, first, da, i)
-        }
+    let node = node_at(cells, i);
+    let kind = kind_of(node);
+    if kind < CAT {
+        return leaf(cells, top, leaf_left(node, byte));
     }
+    let a = first_of(node);
+    let Made::Term(da, first) = derive(cells, top, a, byte) else {
+        return Made::Long;
+    };
+    if kind == STAR {
+        return cat_fit(cells, first, da, i);
+    }
+    let b = second_of(node);
+    if kind == ALT {
+        let Made::Term(db, second) = derive(cells, first, b, byte) else {
+            return Made::Long;
+        };
+        return alt_short(cells, second, da, db);
+    }
+    let Made::Term(left, second) = cat_fit(cells, first, da, b) else {
+        return Made::Long;
+    };
+    if nullable(cells, a) {
+        let Made::Term(db, third) = derive(cells, second, b, byte) else {
+            return Made::Long;
+        };
+        return alt_short(cells, third, left, db);
+    }
+    Made::Term(left, second)
 }
 
 fn smaller(m: usize, n: usize) -> usize
@@ -84,7 +99,7 @@ pub fn next_edge(cells: &[u64], i: usize, byte: usize) -> usize
     requires { ⌜ byte ≤ lastByte ⌝ }
     ensures { λ r. ⌜ r ≡ nextEdge byte (term (now (cells .entry)) i) ⌝ }
 {
-    let node = term::node_at(cells, i);
+    let node = node_at(cells, i);
     match node {
         Term::Nothing => BYTES,
         Term::Empty => BYTES,

@@ -4,7 +4,6 @@ use Prim.Native.Nat.{ℕ, _+_, _<_, _≤_}
 use mathlib.Core.Path.{_≡_}
 use mathlib.Core.List.{List}
 use lib.ListN.{length, getD}
-use Rattle.meaning.specs.Re.{Re}
 use Rattle.meaning.specs.Limited.{Fit}
 use Rattle.meaning.specs.Limited.Fit.{Long, Fits}
 use Rattle.term.specs.Area.{Makes}

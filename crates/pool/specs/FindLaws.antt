@@ -4,11 +4,10 @@ use Prim.Native.Nat.{ℕ, _+_, _<_, _≤_}
 use native.Mathlib.Omega.{arith}
 use mathlib.Core.Path.{_≡_, refl, sym, ap, _∙_}
 use mathlib.Core.List.{List}
-use lib.ListN.{getD}
 use Rattle.meaning.specs.Re.{Re, size}
 use Rattle.term.specs.declared.Term.{Term}
 use Rattle.term.specs.declared.Term.the-variants.{Nothing, Empty, Range, Cat, Alt, Star}
-use Rattle.term.specs.Cells.{nodeOf, grow, term, Sound}
+use Rattle.term.specs.Cells.{grow, term, Sound}
 use Rattle.term.specs.Nodes.{kindOf, firstOf, secondOf, Found}
 use Rattle.term.specs.CellLaws.{term-node}
 use Rattle.walk.specs.Parts.{InPool}

@@ -1,6 +1,6 @@
 -- What the code that works off a rule's nodes asks and answers: the rule, the stack of cells, and how many cells the rest may use.
 -- The contracts of this crate are stated with these.
-use Prim.Native.Nat.{ℕ, zero, suc, _+_, _-_, _*_, _/_, _<_, _≤_}
+use Prim.Native.Nat.{ℕ, zero, suc, _+_, _*_, _/_, _<_, _≤_}
 use mathlib.Core.Path.{_≡_}
 use mathlib.Core.Bool.{true}
 use mathlib.Core.List.{List, [], _∷_, _++_}
