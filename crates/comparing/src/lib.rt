@@ -64,6 +64,23 @@ fn compare_loaded<'a>(
     }
 }
 
+// With room: only the front of the work area is lent on, so that a cell's number fits sixteen bits.
+fn compare_part<'a>(
+    book: &'a [u8],
+    count: usize,
+    labels: &'a [u8],
+    targets: &'a [u8],
+    area: &mut [u8],
+    work: &mut [u64],
+) -> Compared
+    requires { ⌜ Blank (now area) ⌝ }
+    requires { ⌜ workLength ≤ length (now work) ⌝ }
+    ensures { λ r. ⌜ Answers (loadedOf (now (book .entry)) count (now (labels .entry)) (now (targets .entry)))
+        (now (area .entry)) (now (area .exit)) r ⌝ }
+{
+    compare_loaded(book, count, labels, targets, area, &mut work[0..WORK_LENGTH])
+}
+
 // A book's bytes against a table in lent memory: the answer, the shown text at the front of the text area, and 0 in all else that was lent.
 pub fn compare_book<'a>(
     book: &'a [u8],
@@ -84,14 +101,7 @@ pub fn compare_book<'a>(
         return Compared::Refused(Refusal::Room);
     }
     table::fill(text_area, 0, room, 0);
-    let answer = compare_loaded(
-        book,
-        count,
-        labels,
-        targets,
-        text_area,
-        &mut work[0..WORK_LENGTH],
-    );
+    let answer = compare_part(book, count, labels, targets, text_area, work);
     vector::clear(work);
     answer
 }
