@@ -21,9 +21,9 @@ sheetLength (gives sheet) = gives (length sheet)
 sheetLength (refuses r) = refuses r
 
 -- the code's answer: which of the two, and where it ends
-abbrev pub told : Put → Outcome ℕ
-told (Sheet end) = gives end
-told (Line r end) = refuses r
+abbrev pub whichPut : Put → Outcome ℕ
+whichPut (Sheet end) = gives end
+whichPut (Line r end) = refuses r
 
 abbrev pub putEnd : Put → ℕ
 putEnd (Sheet end) = end
@@ -32,5 +32,5 @@ putEnd (Line r end) = end
 -- the sheet or the line stands at the front of the buffer, o before and o′ now
 pub record Puts (x : Outcome (List ℕ)) (o o′ : List ℕ) (p : Put) : Type 0 where
   pub front : Writes (sheetPut x) o o′ 0 (putEnd p)
-  pub which : told p ≡ sheetLength x
+  pub which : whichPut p ≡ sheetLength x
   pub fits : putEnd p ≤ length o′

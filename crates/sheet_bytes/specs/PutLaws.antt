@@ -19,13 +19,13 @@ use Rattle.table.specs.SheetBytes.{sheet-length}
 use Rattle.table.specs.Calls.{wrote, Output, writeOf}
 use Rattle.table.specs.Promises.{WritesSheet}
 use Rattle.programs.specs.Print.{sheetBuilt}
-use Rattle.programs.specs.TableLaws.{Built, no-count, same-count, same-refusal}
+use Rattle.programs.specs.StandLaws.{Built, no-count, same-count, same-refusal}
 use Rattle.sheet_bytes.specs.declared.Put.{Put}
 use Rattle.sheet_bytes.specs.declared.Put.the-variants.{Sheet, Line}
-use Rattle.sheet_bytes.specs.Put.{told, putEnd, Puts}
+use Rattle.sheet_bytes.specs.Put.{whichPut, putEnd, Puts}
 
 -- the answer is one of its two: which, and where it ends, say all of it
-pub put-one : (p q : Put) → told p ≡ told q → putEnd p ≡ putEnd q → p ≡ q
+pub put-one : (p q : Put) → whichPut p ≡ whichPut q → putEnd p ≡ putEnd q → p ≡ q
 put-one (Sheet e) (Sheet f) t n = ap Sheet n
 put-one (Sheet e) (Line r f) t n = absurd (no-count (sym t))
 put-one (Line r e) (Sheet f) t n = absurd (no-count t)

@@ -31,11 +31,11 @@ use Rattle.comparing.specs.Calls.Told.{same, differs}
 use Rattle.comparing.specs.Promises.{Compares}
 use Rattle.programs.specs.Print.{sheetNext, bookFirst, compareFiles, verdictLines}
 use Rattle.programs.specs.PrintLaws.{writes-as}
-use Rattle.programs.specs.TableLaws.{Stands}
-use Rattle.compare_lines.specs.Told.{toldLines, Inside}
+use Rattle.programs.specs.StandLaws.{Stands}
+use Rattle.compare_lines.specs.ToldLines.{toldLines, Inside}
 
 -- the code's answer and the text area hold a verdict
-pub record Holds (v : Outcome Verdict) (area : List ℕ) (r : Compared) : Type 0 where
+pub record HoldsVerdict (v : Outcome Verdict) (area : List ℕ) (r : Compared) : Type 0 where
   pub lines : toldLines area r ≡ verdictLines v
   pub inside : Inside area r
 
@@ -46,7 +46,7 @@ not-same : {n b s : ℕ} → _≡_ {A = Outcome Told} (gives same) (gives (diffe
 not-same e = let z : _≡_ {A = ℕ} 0 1 = cc in omega arith
 
 holds-told : (area work area′ : List ℕ) (v : Outcome Verdict) (r : Compared) → length area′ ≡ length area
-    → compared r ≡ told area work v .answer → area′ ≡ told area work v .text → Holds v area′ r
+    → compared r ≡ told area work v .answer → area′ ≡ told area work v .text → HoldsVerdict v area′ r
 holds-told area work area′ (gives Verdict·same) Same l e f = record { lines = refl; inside = tt }
 holds-told area work area′ (gives Verdict·same) (Differs n b s) l e f = absurd (not-same (sym e))
 holds-told area work area′ (gives Verdict·same) (Refused r) l e f = absurd (no-told e)
@@ -85,7 +85,7 @@ told-differs area part answer n b s e f first second =
 -- past the book's faults: the sheet was read, and the walk answers
 pub compare-holds : (book : List ℕ) (n : ℕ) (l t area work area′ work′ : List ℕ) (r : Compared) (table : Table)
     → Stands table n l t → shownText ≤ length area → workLength ≤ length work → length area′ ≡ length area
-    → Compares book n l t area work area′ work′ r → Holds (compareBook book table) area′ r
+    → Compares book n l t area work area′ work′ r → HoldsVerdict (compareBook book table) area′ r
 compare-holds book n l t area work area′ work′ r table s room long e c =
     let as-told : compareOf book n l t area work ≡ told area work (compareBook book table) =
     rw (le-ltb (length area) shownText room, le-ltb (length work) workLength long, s .well, s .same) refl in
