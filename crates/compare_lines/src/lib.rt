@@ -7,7 +7,7 @@ ghost use Rattle.number.specs.Limits.{states, tableCells, shownText};
 ghost use Rattle.number.specs.Lists.{Writes};
 ghost use Rattle.vector.specs.Layout.{workLength};
 ghost use Rattle.programs.specs.Print.{compareFiles, verdictLines, comparePrint, compareRoom};
-ghost use Rattle.compare_lines.specs.Told.{toldLines, Inside};
+ghost use Rattle.compare_lines.specs.ToldLines.{toldLines, Inside};
 use book::Checked;
 use lines::LINE_ROOM;
 use number::Refusal;

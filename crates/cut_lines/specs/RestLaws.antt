@@ -26,7 +26,7 @@ use Rattle.built.specs.Calls.{buildBook}
 use Rattle.programs.specs.Output.{kindIn, wordLines, cutLines}
 use Rattle.programs.specs.Print.{cutBuilt}
 use Rattle.programs.specs.EnoughLaws.{proper, full-on, cut-ample, cut-over}
-use Rattle.programs.specs.TableLaws.{Built}
+use Rattle.programs.specs.StandLaws.{Built}
 use Rattle.turns.specs.declared.Turn.{Turn}
 use Rattle.turns.specs.declared.Turn.the-variants.{Onward, Last}
 use Rattle.turns.specs.Turned.{nextBy, nextAfter, turnOf, turnLines, next, Few, Turned}

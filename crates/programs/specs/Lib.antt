@@ -1,9 +1,9 @@
 -- What the programs put out, for every input. Definitions, in reading order: Output, the lines of a cut; Print, all that each program puts out; Sample, two texts and their lines.
--- Main gathers the theorems that are bought; the other files prove them, and EnoughLaws, TableLaws and PrintLaws serve the code's crates too.
+-- Main gathers the theorems that are bought; the other files prove them, and EnoughLaws, StandLaws and PrintLaws serve the code's crates too.
 pub mod Output
 pub mod Print
 pub mod EnoughLaws
-pub mod TableLaws
+pub mod StandLaws
 pub mod PrintLaws
 pub mod Sample
 pub mod MainLaws

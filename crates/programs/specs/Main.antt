@@ -1,5 +1,5 @@
 -- The theorems of the programs that are bought, together: what they print is what the textbook and the calls of document 01 say.
--- To believe them, read the definitions: Output and Print here, Lines in lines, and those that they stand on. Proofs of more than a line are MainLaws'.
+-- To believe them, read the definitions: Output and Print here, Lines in lines, and those that they stand on. Proofs of more than two lines stand in MainLaws, computed ones in Sample.
 use Prim.Native.Nat.{ℕ, _<_, _≤_}
 use mathlib.Core.Path.{_≡_, sym, ap, _∙_}
 use mathlib.Core.List.{List}

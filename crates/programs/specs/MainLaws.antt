@@ -1,6 +1,6 @@
--- The proofs of the theorems of Main that take more than a line.
+-- The proofs of the theorems of Main that take more than two lines.
 -- Each goes from what a program prints to the theorem of the layer below that says it.
-use Prim.Native.Nat.{ℕ, _<_, _≤_}
+use Prim.Native.Nat.{ℕ, _≤_}
 use native.Mathlib.Omega.{arith}
 use mathlib.Core.Path.{_≡_, refl, sym, ap, _∙_}
 use mathlib.Core.List.{List}
@@ -23,7 +23,6 @@ use Rattle.built.specs.Main.{the-build}
 use Rattle.lines.specs.Lines.{sameLine, differsLine, refusedLine}
 use Rattle.verdict.specs.Compare.{Verdict}
 use Rattle.verdict.specs.Compare.Verdict.{Same, Differs}
-use Rattle.verdict.specs.Calls.{compareBook}
 use Rattle.verdict.specs.Main.{the-own-table}
 use Rattle.programs.specs.Print.{cutBuilt, Printed, sheetNext, bookFirst, verdictLines, comparePrint, sheetBuilt, sheetOf}
 use Rattle.programs.specs.EnoughLaws.{never-full}

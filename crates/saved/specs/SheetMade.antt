@@ -8,7 +8,7 @@ use Rattle.number.specs.declared.Refusal.{Refusal}
 use Rattle.number.specs.Refused.{Outcome}
 use Rattle.number.specs.Refused.Outcome.{gives, refuses}
 use Rattle.programs.specs.Print.{sheetOf}
-use Rattle.programs.specs.TableLaws.{no-count, same-refusal}
+use Rattle.programs.specs.StandLaws.{no-count, same-refusal}
 use Rattle.sheet_bytes.specs.declared.Put.{Put}
 use Rattle.sheet_bytes.specs.declared.Put.the-variants.{Sheet, Line}
 use Rattle.sheet_bytes.specs.Put.{putAnswer, sheetLength, Puts}

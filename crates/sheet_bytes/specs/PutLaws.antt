@@ -19,7 +19,7 @@ use Rattle.table.specs.SheetBytes.{sheet-length}
 use Rattle.table.specs.Calls.{wrote, Output, writeOf}
 use Rattle.table.specs.Promises.{WritesSheet}
 use Rattle.programs.specs.Print.{sheetBuilt}
-use Rattle.programs.specs.TableLaws.{Built, no-count, same-count, same-refusal}
+use Rattle.programs.specs.StandLaws.{Built, no-count, same-count, same-refusal}
 use Rattle.sheet_bytes.specs.declared.Put.{Put}
 use Rattle.sheet_bytes.specs.declared.Put.the-variants.{Sheet, Line}
 use Rattle.sheet_bytes.specs.Put.{putAnswer, putEnd, Puts}

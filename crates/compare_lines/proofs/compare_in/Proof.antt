@@ -4,8 +4,8 @@ use native.Mathlib.Omega.{arith}
 use mathlib.Core.Path.{sym, ap, _∙_}
 use Rattle.book.specs.Calls.{checked}
 use Rattle.programs.specs.PrintLaws.{writes-as}
-use Rattle.programs.specs.TableLaws.{load-refused, load-gave}
-use Rattle.compare_lines.specs.ToldLaws.{compare-holds, files-no-book, files-no-sheet, files-both}
+use Rattle.programs.specs.StandLaws.{load-refused, load-gave}
+use Rattle.compare_lines.specs.ToldLinesLaws.{compare-holds, files-no-book, files-no-sheet, files-both}
 use borrow.Author.Needs.{needs}
 use Rattle.compare_lines.proofs.compare_in.Statement.{statement}
 use Rattle.compare_lines.proofs.compare_in.Tie as tie

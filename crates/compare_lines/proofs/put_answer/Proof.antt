@@ -2,7 +2,7 @@
 -- Assumes nothing.
 use native.Mathlib.Omega.{arith}
 use mathlib.Core.Path.{refl}
-use Rattle.compare_lines.specs.ToldLaws.{told-as, told-inside, told-part, told-differs}
+use Rattle.compare_lines.specs.ToldLinesLaws.{told-as, told-inside, told-part, told-differs}
 use borrow.Author.Needs.{needs}
 use Rattle.compare_lines.proofs.put_answer.Statement.{statement}
 use Rattle.compare_lines.proofs.put_answer.Tie as tie

@@ -4,7 +4,7 @@ use native.Mathlib.Omega.{arith}
 use mathlib.Core.Path.{sym, ap}
 use Rattle.programs.specs.Print.{cutBuilt}
 use Rattle.programs.specs.PrintLaws.{writes-as}
-use Rattle.programs.specs.TableLaws.{build-refused, build-gave}
+use Rattle.programs.specs.StandLaws.{build-refused, build-gave}
 use Rattle.cut_lines.specs.RestLaws.{cut-built}
 use borrow.Author.Needs.{needs}
 use Rattle.cut_lines.proofs.cut_in.Statement.{statement}

@@ -3,7 +3,7 @@
 use Prim.Native.Nat.{ℕ}
 use native.Mathlib.Omega.{arith}
 use mathlib.Core.Path.{ap}
-use Rattle.turns.specs.TurnLaws.{kinds-all}
+use Rattle.turns.specs.TurnedLaws.{kinds-all}
 use Rattle.cut_lines.specs.Rest.{restLines}
 use Rattle.programs.specs.PrintLaws.{writes-as}
 use borrow.Author.Needs.{needs}

@@ -1,7 +1,7 @@
 -- `sheet_bytes::sheet_in` meets its contract: the build's refusal, or the sheet of the table that was built, which always fits.
 -- Assumes nothing.
 use native.Mathlib.Omega.{arith}
-use Rattle.programs.specs.TableLaws.{build-refused, build-gave}
+use Rattle.programs.specs.StandLaws.{build-refused, build-gave}
 use Rattle.sheet_bytes.specs.PutLaws.{puts-as, sheet-refused, puts-sheet, never-unwritten}
 use borrow.Author.Needs.{needs}
 use Rattle.sheet_bytes.proofs.sheet_in.Statement.{statement}

@@ -5,7 +5,7 @@ use mathlib.Core.Path.{_≡_}
 use lib.ListN.{drop}
 use Rattle.cutting.specs.Flat.{recordCells}
 use Rattle.turns.specs.Turned.{kindBy}
-use Rattle.turns.specs.TurnLaws.{lines-none, lines-more}
+use Rattle.turns.specs.TurnedLaws.{lines-none, lines-more}
 use borrow.Author.Needs.{needs}
 use Prim.Native.Nat.{ℕ, suc, _-_, _*_, _<_}
 use borrow.Fn.Kinds.{In}

@@ -8,7 +8,7 @@ use Rattle.cutting.specs.Calls.{ended}
 use Rattle.cutting.specs.Cut.Ending.{Done, StuckAt, FullAt}
 use Rattle.cutting.specs.Flat.{recordCells}
 use Rattle.turns.specs.Turned.{kindBy, turnOf}
-use Rattle.turns.specs.TurnLaws.{Came, came, came-not, turn-done, turn-stuck, turn-full, turn-refused}
+use Rattle.turns.specs.TurnedLaws.{Came, came, came-not, turn-done, turn-stuck, turn-full, turn-refused}
 use borrow.Author.Needs.{needs}
 use Rattle.turns.proofs.cut_turn.Statement.{statement}
 use Rattle.turns.proofs.cut_turn.Tie as tie

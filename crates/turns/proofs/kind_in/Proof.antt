@@ -1,6 +1,5 @@
 -- `turns::kind_in` meets its contract: each arm is what the book's answer means, as the pattern tells it.
 -- Assumes nothing.
-use Prim.Native.Nat.{ℕ}
 use mathlib.Core.Path.{_≡_, ap}
 use Rattle.number.specs.Refused.{Outcome}
 use Rattle.book.specs.declared.RuleKind.{RuleKind}

@@ -6,7 +6,7 @@ use mathlib.Core.Path.{_≡_, refl}
 use lib.ListN.{length, getD, length-set}
 use borrow.Author.Needs.{needs}
 use Rattle.programs.specs.Output.{kindIn}
-use Rattle.turns.specs.TurnLaws.{kinds-more}
+use Rattle.turns.specs.TurnedLaws.{kinds-more}
 use Rattle.turns.proofs.look_up.Statement.{statement}
 use Rattle.turns.proofs.look_up.Tie as tie
 

@@ -31,8 +31,8 @@ use Rattle.verdict.specs.Calls.Told.{same, differs}
 use Rattle.comparing.specs.Promises.{Compares}
 use Rattle.programs.specs.Print.{sheetNext, bookFirst, compareFiles, verdictLines}
 use Rattle.programs.specs.PrintLaws.{writes-as}
-use Rattle.programs.specs.TableLaws.{Stands}
-use Rattle.compare_lines.specs.Told.{toldLines, Inside}
+use Rattle.programs.specs.StandLaws.{Stands}
+use Rattle.compare_lines.specs.ToldLines.{toldLines, Inside}
 
 -- the code's answer and the text area hold a verdict
 pub record AnswerHeld (v : Outcome Verdict) (area : List ℕ) (r : Compared) : Type 0 where

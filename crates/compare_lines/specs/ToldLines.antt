@@ -1,5 +1,5 @@
 -- The lines of a comparison from the code's answer and the text area; a shown text lies within the area.
--- They are the verdict's (specs/ToldLaws.antt).
+-- They are the verdict's (specs/ToldLinesLaws.antt).
 use Prim.Native.Nat.{ℕ, _≤_}
 use mathlib.Core.List.{List, _++_}
 use lib.ListN.{length, take}
