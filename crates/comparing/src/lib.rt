@@ -78,7 +78,14 @@ fn compare_part<'a>(
     ensures { λ r. ⌜ Answers (loadedOf (now (book .entry)) count (now (labels .entry)) (now (targets .entry)))
         (now (area .entry)) (now (area .exit)) r ⌝ }
 {
-    compare_loaded(book, count, labels, targets, area, &mut work[0..WORK_LENGTH])
+    compare_loaded(
+        book,
+        count,
+        labels,
+        targets,
+        area,
+        &mut work[0..WORK_LENGTH],
+    )
 }
 
 // A book's bytes against a table in lent memory: the answer, the shown text at the front of the text area, and 0 in all else that was lent.
