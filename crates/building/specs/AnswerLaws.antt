@@ -94,12 +94,6 @@ module _ (file : List ℕ) {r : Checked} (x : checked r ≡ checkOf file) where
 
 -- ---- what build asks on the way
 
--- the part of the work area that is lent on
-pub part-roomy : {l t : List ℕ} (s : List ℕ) → states ≤ length l → tableCells ≤ length t → workLength ≤ length s → Roomy l t (take workLength s)
-part-roomy s h k m =
-    let size = length-take-le workLength s m in
-    record { labels = h; targets = k; long = omega arith; small = omega arith }
-
 -- what is filled with 0: the labels and the targets past a table, and all of an area
 module _ {o : Outcome Table} {l₁ t₁ : List ℕ} {m : ℕ} (a : Fronted o l₁ t₁ m) where
   pub past-labels : {n : ℕ} → states ≤ n → length l₁ ≡ n → (m ≤ n) × (n ≤ length l₁)

@@ -1,5 +1,9 @@
 // From a rule book to a table in lent memory, or refused exactly at the stated limits.
 // The walk starts at the book's vector 0 and fills the table area; what is behind the table, and the work area, is 0 afterwards.
+ghost use Prim.Native.Nat.{_≤_};
+ghost use lib.ListN.{length};
+ghost use Rattle.number.specs.Limits.{states, tableCells};
+ghost use Rattle.vector.specs.Layout.{workLength};
 ghost use Rattle.start.specs.Start.{rulesIn, Opened};
 ghost use Rattle.built.specs.Build.{buildRules};
 ghost use Rattle.built.specs.Calls.{buildBook};
@@ -56,8 +60,18 @@ fn build_book(book: &[u8], cells: &mut [u64], labels: &mut [u8], targets: &mut [
     }
 }
 
+// With room: only the front of the work area is lent on, so that a cell's number fits sixteen bits.
+fn build_part(book: &[u8], labels: &mut [u8], targets: &mut [u8], work: &mut [u64]) -> Counted
+    requires { ⌜ states ≤ length (now labels) ⌝ }
+    requires { ⌜ tableCells ≤ length (now targets) ⌝ }
+    requires { ⌜ workLength ≤ length (now work) ⌝ }
+    ensures { λ r. ⌜ Tabled (buildBook (now (book .entry))) (now (labels .exit)) (now (targets .exit)) r ⌝ }
+{
+    build_book(book, &mut work[0..WORK_LENGTH], labels, targets)
+}
+
 // A book is built into the table area. Cells of that area past the table are made 0, and all of them after a refusal, as is the work area;
-// only where an area is too small is nothing changed. Just so much of the work area is lent on that a cell's number fits sixteen bits.
+// only where an area is too small is nothing changed.
 pub fn build(book: &[u8], labels: &mut [u8], targets: &mut [u8], work: &mut [u64]) -> Counted
     ensures { λ r. ⌜ Builds (now (book .entry)) (now (labels .entry)) (now (targets .entry)) (now (work .entry))
         (now (labels .exit)) (now (targets .exit)) (now (work .exit)) r ⌝ }
@@ -73,7 +87,7 @@ pub fn build(book: &[u8], labels: &mut [u8], targets: &mut [u8], work: &mut [u64
     if work.len() < WORK_LENGTH {
         return Counted::Refused(Refusal::Room);
     }
-    let built = build_book(book, &mut work[0..WORK_LENGTH], labels, targets);
+    let built = build_part(book, labels, targets, work);
     vector::clear(work);
     match built {
         Counted::States(count) => {

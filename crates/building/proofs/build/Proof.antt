@@ -2,11 +2,8 @@
 -- Assumes nothing.
 use mathlib.Core.Path.{ap, _∙_}
 use lib.ListN.{replicate}
-use lib.Seq.{length-front}
-use Rattle.vector.specs.Layout.{workLength}
 use Rattle.building.specs.AnswerLaws.{
   fronted,
-  part-roomy,
   past-labels,
   past-targets,
   past-fits,
@@ -30,17 +27,8 @@ returns-2 c = room-targets _ _ _ _ (c .before .if1 .left) (c .if2 .taken)
 returns-3 : tie.Need-returns-3
 returns-3 c = room-work _ _ _ _ (c .before .before .if1 .left) (c .before .if2 .left) (c .if3 .taken)
 
-sub-build-book : tie.Need-sub-build-book
-sub-build-book c = search needs
-
-part-build-book-start : tie.Need-part-build-book-start
-part-build-book-start c = search needs
-
-part-build-book-end : tie.Need-part-build-book-end
-part-build-book-end c = search needs
-
-build-book-requires : tie.Need-build-book-requires
-build-book-requires c κs = part-roomy (c .before .before .before .before .before .before .before .before .before .before .args .work .now) (c .before .before .before .before .before .if1 .left) (c .before .before .before .before .if2 .left) (c .before .before .before .if3 .left)
+build-part-requires : tie.Need-build-part-requires
+build-part-requires c κs = (c .before .before .before .before .before .if1 .left, (c .before .before .before .before .if2 .left, c .before .before .before .if3 .left))
 
 clear-requires : tie.Need-clear-requires
 clear-requires c κs = search needs
@@ -50,64 +38,64 @@ enum-known-built c = search needs
 
 fill-requires : tie.Need-fill-requires
 fill-requires c κs =
-    let call = c .before .before .before .before .before .before .before .before .before .before .before .before .before .before .build-book in
-    past-labels (fronted (call .ensures) (c .before .before .built .given .1)) (c .before .before .before .before .before .before .before .before .before .before .before .before .before .before .before .before .before .before .before .before .if1 .left) (call .kept .1 .1 .0)
+    let call = c .before .before .before .before .before .before .before .before .before .before .before .before .before .before .build-part in
+    past-labels (fronted (call .ensures) (c .before .before .built .given .1)) (c .before .before .before .before .before .before .before .before .before .before .before .before .before .before .before .before .before .before .before .before .if1 .left) (call .kept .1 .0)
 
 mul-fill : tie.Need-mul-fill
-mul-fill c = record { fits = past-fits (fronted (c .before .before .before .before .before .before .before .before .before .before .before .before .before .before .before .before .before .before .build-book .ensures) (c .before .before .before .before .before .before .built .given .1)) }
+mul-fill c = record { fits = past-fits (fronted (c .before .before .before .before .before .before .before .before .before .before .before .before .before .before .before .before .before .before .build-part .ensures) (c .before .before .before .before .before .before .built .given .1)) }
 
 fill-requires-2 : tie.Need-fill-requires-2
 fill-requires-2 c κs =
-    let call = c .before .before .before .before .before .before .before .before .before .before .before .before .before .before .before .before .before .before .build-book in
-    past-targets (fronted (call .ensures) (c .before .before .before .before .before .before .built .given .1)) (c .before .before .before .before .before .before .before .before .before .before .before .before .before .before .before .before .before .before .before .before .before .before .before .if2 .left) (call .kept .1 .1 .1 .0)
+    let call = c .before .before .before .before .before .before .before .before .before .before .before .before .before .before .before .before .before .before .build-part in
+    past-targets (fronted (call .ensures) (c .before .before .before .before .before .before .built .given .1)) (c .before .before .before .before .before .before .before .before .before .before .before .before .before .before .before .before .before .before .before .before .before .before .before .if2 .left) (call .kept .1 .1 .0)
 
 enum-known-built-2 : tie.Need-enum-known-built-2
 enum-known-built-2 c = search needs
 
 fill-requires-3 : tie.Need-fill-requires-3
-fill-requires-3 c κs = past-none (c .before .before .before .before .before .before .before .before .before .before .before .before .before .before .build-book .kept .1 .1 .0)
+fill-requires-3 c κs = past-none (c .before .before .before .before .before .before .before .before .before .before .before .before .before .before .build-part .kept .1 .0)
 
 fill-requires-4 : tie.Need-fill-requires-4
-fill-requires-4 c κs = past-none (c .before .before .before .before .before .before .before .before .before .before .before .before .before .before .before .before .before .before .build-book .kept .1 .1 .1 .0)
+fill-requires-4 c κs = past-none (c .before .before .before .before .before .before .before .before .before .before .before .before .before .before .before .before .before .before .build-part .kept .1 .1 .0)
 
 same-length : tie.Need-same-length
-same-length c = c .before .before .before .before .before .before .fill .kept .0 ∙ c .before .before .before .before .before .before .before .before .before .before .before .before .before .before .before .before .before .before .before .before .before .build-book .kept .1 .1 .0
+same-length c = c .before .before .before .before .before .before .fill .kept .0 ∙ c .before .before .before .before .before .before .before .before .before .before .before .before .before .before .before .before .before .before .before .before .before .build-part .kept .1 .0
 
 same-length-2 : tie.Need-same-length-2
-same-length-2 c = c .before .before .fill2 .kept .0 ∙ c .before .before .before .before .before .before .before .before .before .before .before .before .before .before .before .before .before .before .before .before .before .build-book .kept .1 .1 .1 .0
+same-length-2 c = c .before .before .fill2 .kept .0 ∙ c .before .before .before .before .before .before .before .before .before .before .before .before .before .before .before .before .before .before .before .before .before .build-part .kept .1 .1 .0
 
 same-length-3 : tie.Need-same-length-3
 same-length-3 c =
-    let call = c .before .before .before .before .before .before .before .before .before .before .before .before .before .before .before .before .before .before .before .before .before .build-book in
-    c .before .before .before .before .before .before .before .before .before .before .before .before .before .clear .kept .0 ∙ length-front (c .before .before .before .before .before .before .before .before .before .before .before .before .before .before .before .before .before .before .before .before .before .before .before .before .before .before .before .before .before .before .before .before .args .work .now) (call .last .1 .0) workLength (call .kept .1 .0)
+    let call = c .before .before .before .before .before .before .before .before .before .before .before .before .before .before .before .before .before .before .before .before .before .build-part in
+    c .before .before .before .before .before .before .before .before .before .before .before .before .before .clear .kept .0 ∙ call .kept .1 .1 .1 .0
 
 returns-4 : tie.Need-returns-4
 returns-4 c =
     let tests = c .before .before .before .before .before .before .before .before .before .before .before .before .before .before .before .before .before .before .before .before .before .before .before .before .before in
-    let call = c .before .before .before .before .before .before .before .before .before .before .before .before .before .before .before .before .before .before .before .before .before .build-book in
-    let whole = length-front (c .before .before .before .before .before .before .before .before .before .before .before .before .before .before .before .before .before .before .before .before .before .before .before .before .before .before .before .before .before .before .before .before .args .work .now) (call .last .1 .0) workLength (call .kept .1 .0) in
+    let call = c .before .before .before .before .before .before .before .before .before .before .before .before .before .before .before .before .before .before .before .before .before .build-part in
+    let whole = call .kept .1 .1 .1 .0 in
     build-done _ _ _ (c .before .before .before .before .before .before .before .before .before .before .before .before .before .before .before .before .before .before .before .before .before .before .before .before .before .before .before .before .before .before .before .before .args .work .now) (tests .before .before .if1 .left) (tests .before .if2 .left) (tests .if3 .left)
-    (call .ensures) (call .kept .1 .1 .0) (call .kept .1 .1 .1 .0) (c .before .before .before .before .before .before .before .before .before .before .before .before .before .clear .ensures ∙ ap (λ k. replicate k 0) whole)
+    (call .ensures) (call .kept .1 .0) (call .kept .1 .1 .0) (c .before .before .before .before .before .before .before .before .before .before .before .before .before .clear .ensures ∙ ap (λ k. replicate k 0) whole)
     (c .before .before .before .before .before .before .before .before .before .built .given .1) (c .before .before .before .before .before .before .fill .ensures) (c .before .before .fill2 .ensures)
 
 same-length-4 : tie.Need-same-length-4
-same-length-4 c = c .before .before .before .before .before .before .fill3 .kept .0 ∙ c .before .before .before .before .before .before .before .before .before .before .before .before .before .before .before .before .before .before .before .before .before .build-book .kept .1 .1 .0
+same-length-4 c = c .before .before .before .before .before .before .fill3 .kept .0 ∙ c .before .before .before .before .before .before .before .before .before .before .before .before .before .before .before .before .before .before .before .before .before .build-part .kept .1 .0
 
 same-length-5 : tie.Need-same-length-5
-same-length-5 c = c .before .before .fill4 .kept .0 ∙ c .before .before .before .before .before .before .before .before .before .before .before .before .before .before .before .before .before .before .before .before .before .build-book .kept .1 .1 .1 .0
+same-length-5 c = c .before .before .fill4 .kept .0 ∙ c .before .before .before .before .before .before .before .before .before .before .before .before .before .before .before .before .before .before .before .before .before .build-part .kept .1 .1 .0
 
 same-length-6 : tie.Need-same-length-6
 same-length-6 c =
-    let call = c .before .before .before .before .before .before .before .before .before .before .before .before .before .before .before .before .before .before .before .before .before .build-book in
-    c .before .before .before .before .before .before .before .before .before .before .before .before .before .clear .kept .0 ∙ length-front (c .before .before .before .before .before .before .before .before .before .before .before .before .before .before .before .before .before .before .before .before .before .before .before .before .before .before .before .before .before .before .before .before .args .work .now) (call .last .1 .0) workLength (call .kept .1 .0)
+    let call = c .before .before .before .before .before .before .before .before .before .before .before .before .before .before .before .before .before .before .before .before .before .build-part in
+    c .before .before .before .before .before .before .before .before .before .before .before .before .before .clear .kept .0 ∙ call .kept .1 .1 .1 .0
 
 returns-5 : tie.Need-returns-5
 returns-5 c =
     let tests = c .before .before .before .before .before .before .before .before .before .before .before .before .before .before .before .before .before .before .before .before .before .before .before .before .before in
-    let call = c .before .before .before .before .before .before .before .before .before .before .before .before .before .before .before .before .before .before .before .before .before .build-book in
-    let whole = length-front (c .before .before .before .before .before .before .before .before .before .before .before .before .before .before .before .before .before .before .before .before .before .before .before .before .before .before .before .before .before .before .before .before .args .work .now) (call .last .1 .0) workLength (call .kept .1 .0) in
+    let call = c .before .before .before .before .before .before .before .before .before .before .before .before .before .before .before .before .before .before .before .before .before .build-part in
+    let whole = call .kept .1 .1 .1 .0 in
     build-refused _ _ _ (c .before .before .before .before .before .before .before .before .before .before .before .before .before .before .before .before .before .before .before .before .before .before .before .before .before .before .before .before .before .before .before .before .args .work .now) (tests .before .before .if1 .left) (tests .before .if2 .left) (tests .if3 .left)
-    (call .ensures) (call .kept .1 .1 .0) (call .kept .1 .1 .1 .0) (c .before .before .before .before .before .before .before .before .before .before .before .before .before .clear .ensures ∙ ap (λ k. replicate k 0) whole)
+    (call .ensures) (call .kept .1 .0) (call .kept .1 .1 .0) (c .before .before .before .before .before .before .before .before .before .before .before .before .before .clear .ensures ∙ ap (λ k. replicate k 0) whole)
     (c .before .before .before .before .before .before .before .before .before .built2 .given .1) (c .before .before .before .before .before .before .fill3 .ensures) (c .before .before .fill4 .ensures)
 
 pub build-spec : {M : Type 1} → statement M
@@ -117,10 +105,7 @@ build-spec =
     returns
     returns-2
     returns-3
-    sub-build-book
-    part-build-book-start
-    part-build-book-end
-    build-book-requires
+    build-part-requires
     clear-requires
     enum-known-built
     fill-requires
