@@ -3,6 +3,7 @@
 ghost use Prim.Native.Nat.{_≤_};
 ghost use lib.ListN.{length};
 use cutting::Ended;
+use cutting::RECORD_CELLS;
 use libc::STDOUT_FILENO;
 use lines::LINE_ROOM;
 use number::Refusal;
@@ -23,8 +24,6 @@ const NUMBERS: usize = 1000;
 const TEXT: usize = 512;
 
 const WORDS: usize = 6;
-
-const RECORD_CELLS: usize = 3;
 
 // A file of a case, as c000.book, into a buffer; the bytes that were read.
 fn read_case(name: &[u8], buffer: &mut [u8]) -> usize
