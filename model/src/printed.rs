@@ -1,5 +1,5 @@
 //! What the program `test_cases` has to print for a case: the build, the cut with room for
-//! a few words, and the comparison.
+//! a few words, the sheet written back, and the comparison.
 
 use crate::book;
 use crate::build::{alike, build_by, compare_by, Built};
@@ -17,6 +17,8 @@ pub struct Printed {
     words: String,
     /// Empty where the build is refused.
     pub cut: String,
+    /// Empty where the sheet is refused.
+    back: String,
     pub comparison: String,
     shown: String,
 }
@@ -25,7 +27,10 @@ impl Printed {
     /// Within the given caps; they also say how many states a sheet may have.
     pub fn of(case: &Case, caps: Caps) -> Printed {
         let bytes = case.book.bytes().unwrap_or_default();
-        let (comparison, shown) = compared(bytes, case.sheet.bytes().unwrap_or_default(), caps);
+        let sheet = case.sheet.bytes().unwrap_or_default();
+        let read = sheet::read_to(caps.states, sheet);
+        let back = read.map_or_else(|_| String::new(), |table| back(&table, sheet));
+        let (comparison, shown) = compared(bytes, sheet, caps);
         let built = book::read(bytes).and_then(|book| build_by(&book, &alike(&book), caps));
         let (build, words, cut) = match built {
             Err(refusal) => (refusal.line(), String::new(), String::new()),
@@ -35,11 +40,12 @@ impl Printed {
                 (format!("{} states, {length} bytes\n", table.count()), words, end)
             }
         };
-        Printed { build, words, cut, comparison, shown }
+        Printed { build, words, cut, back, comparison, shown }
     }
 
     pub fn text(&self) -> String {
-        [&self.build[..], &self.words, &self.cut, &self.comparison, &self.shown].concat()
+        let first = [&self.build[..], &self.words, &self.cut];
+        [first, [&self.back, &self.comparison, &self.shown]].concat().concat()
     }
 
     /// The kinds of the three answers: a table, or the answer's name, with a refusal's number.
@@ -68,6 +74,13 @@ fn words(table: &Table, text: &[u8]) -> (String, String) {
         End::Full { count, place } => format!("full {count} {place}\n"),
     };
     (words.iter().map(line).collect(), end)
+}
+
+/// A table's sheet beside the one that it was read from.
+fn back(table: &Table, sheet: &[u8]) -> String {
+    let written = sheet::write(table);
+    let same = if written == sheet { "the same" } else { "others" };
+    format!("back {} bytes, {same}\n", written.len())
 }
 
 /// The comparison by the library: the sheet is loaded before the book is read. The

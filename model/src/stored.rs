@@ -14,8 +14,9 @@ use crate::refusal::{Fault, Refusal};
 use crate::sheet;
 use crate::sheets::{shuffled, with_spare};
 use crate::worked::{
-    book_fault_cases, case, limit_cases, meeting_cases, raised_limit_cases, raised_meeting_cases,
-    sample_cases, sample_table, sheet_fault_cases, start_cases, state_count_cases, SAMPLE, TEXT,
+    book_fault_cases, case, limit_cases, meeting_cases, older_longest_cases, raised_limit_cases,
+    raised_meeting_cases, sample_cases, sample_table, sheet_fault_cases, start_cases,
+    state_count_cases, SAMPLE, TEXT,
 };
 use std::collections::BTreeMap;
 use std::fs;
@@ -71,6 +72,7 @@ fn groups() -> Vec<Group> {
         group("beginnings of sheets of more than 128 states", false, beginning_cases()),
         group("sheets of more than 128 states, and long ones", true, raised_sheet_cases()),
         group("random cases past the older caps", false, raised_random_cases()),
+        group("the longest sheet of 128 states", true, older_longest_cases()),
     ]
 }
 

@@ -137,12 +137,17 @@ pub fn state_count_cases() -> Vec<Case> {
 /// longer, and the longest of them.
 fn sheet_length_cases() -> Vec<Case> {
     let mut cases = Vec::new();
-    for (name, runs, first) in
-        [("65536 bytes", 63, 4), ("65537 bytes", 63, 130), ("65923 bytes", 256, 1)]
-    {
+    for (name, runs, first) in [("65536 bytes", 63, 4), ("65537 bytes", 63, 130)] {
         cases.push(case(name, &SAMPLE, TEXT, &sheet::write(&crowded(OLDER.states, runs, first))));
     }
+    cases.extend(older_longest_cases());
     cases
+}
+
+/// The longest sheet of the older number of states.
+pub fn older_longest_cases() -> Vec<Case> {
+    let sheet = sheet::write(&crowded(OLDER.states, BYTES, 1));
+    vec![case("65923 bytes", &SAMPLE, TEXT, &sheet)]
 }
 
 /// The sample book, whole and in parts, against its own sheet and a merged one.

@@ -1,42 +1,20 @@
 // Cutting by tables: words longest first, stuck and full at their places, cells past the words untouched.
-// The first number is the table's state count; a cut into cells has its place and its cells next, one into records how many it may use.
-use crate::reading;
-use crate::reading::Case;
+// A cut is into cells, from a place on, or by document 01's own call into a lent list of word records.
+ghost use Prim.Native.Nat.{_≤_};
 use crate::say;
-use crate::words;
 use cutting::Ended;
 use cutting::Word;
-use number::limits::TEXT_FILE;
 
-// More than a case has, and what they hold before.
-const LABELS: usize = 256;
-
+// More cells than a case has, and what they hold before.
 const CELLS: usize = 300;
 
 const FILL: usize = 9;
 
+// The records of a list.
+const ROOM: usize = 2;
+
 // At most so many cells are printed.
 const SHOWN: usize = 6;
-
-pub(crate) fn tell(ended: Ended) {
-    match ended {
-        Ended::Done(count) => {
-            say::text(b"done ");
-            say::count(count);
-        }
-        Ended::Stuck(count, place) => {
-            say::text(b"stuck ");
-            say::counted(count, b" ");
-            say::count(place);
-        }
-        Ended::Full(count, place) => {
-            say::text(b"full ");
-            say::counted(count, b" ");
-            say::count(place);
-        }
-        Ended::Refused(r) => say::refusal(r),
-    }
-}
 
 fn cell(records: &[usize], i: usize) {
     if i < records.len() {
@@ -45,7 +23,7 @@ fn cell(records: &[usize], i: usize) {
     }
 }
 
-pub(crate) fn cells(records: &[usize]) {
+fn cells(records: &[usize]) {
     say::text(b", cells");
     let mut i: usize = 0;
     while i < SHOWN {
@@ -55,42 +33,87 @@ pub(crate) fn cells(records: &[usize]) {
     say::text(b"\n");
 }
 
-fn into_cells<'a>(case: Case, labels: &'a [u8], targets: &'a [u8], text: &'a [u8]) {
-    let mut records = [FILL; CELLS];
-    let most = case.third;
-    if most <= CELLS {
-        let lent = &mut records[0..most];
-        let ended = cutting::cut_from(case.first, labels, targets, text, case.second, lent);
-        tell(ended);
-        cells(lent);
+fn tell(ended: Ended, records: &[usize]) {
+    match ended {
+        Ended::Done(count) => {
+            say::text(b"done ");
+            say::count(count);
+        }
+        Ended::Stuck(count, place) => say::placed(b"stuck ", count, place),
+        Ended::Full(count, place) => say::placed(b"full ", count, place),
+        Ended::Refused(r) => say::refusal(r),
     }
+    cells(records);
 }
 
-fn into_records<'a>(case: Case, labels: &'a [u8], targets: &'a [u8], text: &'a [u8]) {
+// Into so many cells.
+pub(crate) fn into_cells<'a>(
+    count: usize,
+    labels: &'a [u8],
+    targets: &'a [u8],
+    text: &'a [u8],
+    at: usize,
+    most: usize,
+) {
+    let mut records = [FILL; CELLS];
+    if CELLS < most {
+        return;
+    }
+    let lent = &mut records[0..most];
+    let ended = cutting::cut_from(count, labels, targets, text, at, lent);
+    tell(ended, lent);
+}
+
+// Both records are printed, whatever was lent.
+fn tell_records(ended: Ended, words: [Word; ROOM]) {
+    let first = words[0];
+    let second = words[1];
+    tell(
+        ended,
+        &[
+            first.start,
+            first.len,
+            first.rule,
+            second.start,
+            second.len,
+            second.rule,
+        ],
+    );
+}
+
+// Into the first records of a list. Structs are lent here, so the proof is by hand.
+fn cut_records<'a>(
+    count: usize,
+    labels: &'a [u8],
+    targets: &'a [u8],
+    text: &'a [u8],
+    room: usize,
+    empty: Word,
+)
+    requires { ⌜ room ≤ 2 ⌝ }
+{
+    let mut words = [empty; ROOM];
+    tell_records(
+        cutting::cut(count, labels, targets, text, &mut words[..room]),
+        words,
+    );
+}
+
+// Into so many records.
+pub(crate) fn into_records<'a>(
+    count: usize,
+    labels: &'a [u8],
+    targets: &'a [u8],
+    text: &'a [u8],
+    most: usize,
+) {
+    if ROOM < most {
+        return;
+    }
     let empty = Word {
         start: FILL,
         len: FILL,
         rule: FILL,
     };
-    let room = case.second;
-    if room <= words::ROOM {
-        words::cut(case.first, labels, targets, text, room, empty);
-    }
-}
-
-pub(crate) fn run(line: &[u8], case: Case) {
-    let mut labels = [0u8; LABELS];
-    let mut targets = io::large_buffer();
-    let mut text = [0u8; TEXT_FILE];
-    let few = reading::fill(line, case.next, &mut labels);
-    let many = reading::fill(line, few.next, &mut targets);
-    let long = reading::fill(line, many.next, &mut text);
-    let a = few.value;
-    let b = many.value;
-    let c = long.value;
-    if case.call == b'c' {
-        into_cells(case, &labels[0..a], &targets[0..b], &text[0..c]);
-    } else {
-        into_records(case, &labels[0..a], &targets[0..b], &text[0..c]);
-    }
+    cut_records(count, labels, targets, text, most, empty);
 }

@@ -4,19 +4,21 @@ ghost use mathlib.Core.Path.{_≡_};
 ghost use Prim.Native.Nat.{_<_, _≤_};
 ghost use lib.ListN.{length};
 
+// More than any area takes.
+const STEPS: usize = 1000000;
+
 // A value read, and where it ends.
 pub(crate) struct Got {
     pub(crate) value: usize,
     pub(crate) next: usize,
 }
 
-// A case: the letter that says what is called, its numbers, and where its areas start.
+// A case: the letter that says what is called, and its numbers.
 pub(crate) struct Case {
     pub(crate) call: u8,
     pub(crate) first: usize,
     pub(crate) second: usize,
     pub(crate) third: usize,
-    pub(crate) next: usize,
 }
 
 pub(crate) fn read(name: &[u8], buffer: &mut [u8]) -> usize
@@ -46,67 +48,28 @@ pub(crate) fn find(text: &[u8], from: usize, byte: u8) -> usize
 }
 
 // A digit, decimal or hexadecimal; 16 for what is none.
-fn digit(c: u8) -> u8
+fn digit(c: u8) -> usize
     ensures { λ r. ⌜ r ≤ 16 ⌝ }
 {
-    if c < b'0' {
-        return 16;
-    }
-    if c <= b'9' {
-        return c - b'0';
-    }
-    if c < b'A' {
-        return 16;
-    }
-    if c <= b'F' {
-        return c - b'A' + 10;
-    }
-    16
+    find(b"0123456789ABCDEF", 0, c)
 }
 
-// A number with one digit more; none is longer than six digits.
-fn longer(value: usize, d: u8) -> usize
-    requires { ⌜ d < 10 ⌝ }
-{
-    if value < 100000 {
-        return 10 * value + wide(d);
-    }
-    0
-}
-
-fn wide(d: u8) -> usize
-    ensures { λ r. ⌜ r ≡ d ⌝ }
-{
-    d as usize
-}
-
-fn behind_space(line: &[u8], at: usize) -> usize
-    ensures { λ r. ⌜ at ≤ r ⌝ }
-{
-    if at < line.len() {
-        if line[at] == b' ' {
-            return at + 1;
-        }
-    }
-    at
-}
-
-// A decimal number, which may stand behind a space; 0 where there is no digit.
-pub(crate) fn number(line: &[u8], from: usize) -> Got
-    ensures { λ r. ⌜ from ≤ r .next ⌝ }
-{
-    let mut i = behind_space(line, from);
+// A decimal number, and the place behind what ends it.
+fn number(line: &[u8], from: usize) -> Got {
+    let mut i = from;
     let mut value: usize = 0;
     while i < line.len() {
         let d = digit(line[i]);
+        i += 1;
         if 9 < d {
             return Got {
                 value: value,
                 next: i,
             };
         }
-        value = longer(value, d);
-        i += 1;
+        if value < 100000 {
+            value = 10 * value + d;
+        }
     }
     Got {
         value: value,
@@ -114,148 +77,109 @@ pub(crate) fn number(line: &[u8], from: usize) -> Got
     }
 }
 
-// A byte into an area that may be full, and the place behind it.
-fn store(area: &mut [u8], at: usize, byte: u8) -> usize
-    requires { ⌜ at ≤ length (now area) ⌝ }
-    ensures { λ r. ⌜ (at ≤ r) × (r ≤ length (now (area .exit))) × (length (now (area .exit)) ≡ length (now (area .entry))) ⌝ }
-{
-    if at == area.len() {
-        return at;
+// What a line calls, and the numbers from a place on; a number that is not there is 0.
+pub(crate) fn case_of(line: &[u8], call: u8, from: usize) -> Case {
+    let first = number(line, from);
+    let second = number(line, first.next);
+    let third = number(line, second.next);
+    Case {
+        call: call,
+        first: first.value,
+        second: second.value,
+        third: third.value,
     }
-    area[at] = byte;
-    at + 1
 }
 
-// The bytes from a mark up to a place once more.
-fn once(area: &mut [u8], mark: usize, at: usize, end: usize) -> usize
-    requires { ⌜ (at ≤ end) × (end ≤ length (now area)) ⌝ }
-    ensures { λ r. ⌜ (end ≤ r) × (r ≤ length (now (area .exit))) × (length (now (area .exit)) ≡ length (now (area .entry))) ⌝ }
-{
-    let mut to = end;
-    let mut from = mark;
-    while from < at {
-        let byte = area[from];
-        to = store(area, to, byte);
-        from += 1;
-    }
-    to
+// Where the reading of an area stands: in the line, and behind the bytes so far; and how often the bytes in brackets
+// are still to come, and where they start.
+struct Spot {
+    next: usize,
+    at: usize,
+    times: usize,
+    start: usize,
 }
 
-// The bytes from a mark up to a place, which stand there once, so many times.
-fn again(area: &mut [u8], mark: usize, at: usize, times: usize) -> usize
-    requires { ⌜ at ≤ length (now area) ⌝ }
-    ensures { λ r. ⌜ (at ≤ r) × (r ≤ length (now (area .exit))) × (length (now (area .exit)) ≡ length (now (area .entry))) ⌝ }
+// A byte of two digits, the second of which is next, if there is room.
+fn put(line: &[u8], spot: Spot, high: usize, area: &mut [u8]) -> usize
+    requires { ⌜ (high < 16) × (spot .at ≤ length (now area)) ⌝ }
+    ensures { λ r. ⌜ (r ≤ length (now (area .exit))) × (length (now (area .exit)) ≡ length (now (area .entry))) ⌝ }
 {
-    let mut end = at;
-    let mut k: usize = 1;
-    while k < times {
-        end = once(area, mark, at, end);
-        k += 1;
-    }
-    end
-}
-
-// A byte of two digits, the second of which stands at a place.
-fn put(line: &[u8], i: usize, high: u8, area: &mut [u8], at: usize) -> usize
-    requires { ⌜ (high < 16) × (at ≤ length (now area)) ⌝ }
-    ensures { λ r. ⌜ (at ≤ r) × (r ≤ length (now (area .exit))) × (length (now (area .exit)) ≡ length (now (area .entry))) ⌝ }
-{
+    let i = spot.next;
+    let at = spot.at;
     if line.len() <= i {
         return at;
     }
     let low = digit(line[i]);
-    if low == 16 {
+    if 15 < low {
         return at;
     }
-    store(area, at, 16 * high + low)
-}
-
-// Where the reading of an area stands: in the line, behind the bytes so far, and where the last byte or group began, and the last bracket.
-struct Spot {
-    next: usize,
-    at: usize,
-    mark: usize,
-    group: usize,
-}
-
-// What is no byte and no bracket: a star with a number, or a space.
-fn repeated(line: &[u8], spot: Spot, c: u8, area: &mut [u8]) -> Spot
-    requires { ⌜ (spot .next < length (now line)) × (spot .at ≤ length (now area)) ⌝ }
-    ensures { λ r. ⌜ (spot .next < r .next) × (r .at ≤ length (now (area .exit))) × (length (now (area .exit)) ≡ length (now (area .entry))) ⌝ }
-{
-    if c == b'*' {
-        let times = number(line, spot.next + 1);
-        return Spot {
-            next: times.next,
-            at: again(area, spot.mark, spot.at, times.value),
-            mark: spot.mark,
-            group: spot.group,
-        };
+    if at == area.len() {
+        return at;
     }
-    Spot {
-        next: spot.next + 1,
-        at: spot.at,
-        mark: spot.mark,
-        group: spot.group,
-    }
+    area[at] = (16 * high + low) as u8;
+    at + 1
 }
 
-// A byte, a bracket, or how many times.
-fn step(line: &[u8], spot: Spot, area: &mut [u8]) -> Spot
-    requires { ⌜ (spot .next < length (now line)) × (spot .at ≤ length (now area)) ⌝ }
-    ensures { λ r. ⌜ (spot .next < r .next) × (r .at ≤ length (now (area .exit))) × (length (now (area .exit)) ≡ length (now (area .entry))) ⌝ }
+// What a byte of the line says: a bracket, a byte's first digit, or nothing.
+fn step(line: &[u8], c: u8, spot: Spot, area: &mut [u8]) -> Spot
+    requires { ⌜ (spot .next ≤ length (now line)) × (spot .at ≤ length (now area)) ⌝ }
+    ensures { λ r. ⌜ (r .at ≤ length (now (area .exit))) × (length (now (area .exit)) ≡ length (now (area .entry))) ⌝ }
 {
-    let i = spot.next;
-    let at = spot.at;
-    let c = line[i];
+    let mut after = spot;
     if c == b'(' {
-        return Spot {
-            next: i + 1,
-            at: at,
-            mark: spot.mark,
-            group: at,
-        };
+        let times = number(line, spot.next);
+        after.next = times.next;
+        after.times = times.value;
+        after.start = times.next;
+        return after;
     }
     if c == b')' {
-        return Spot {
-            next: i + 1,
-            at: at,
-            mark: spot.group,
-            group: spot.group,
-        };
+        if spot.times < 2 {
+            return after;
+        }
+        after.next = spot.start;
+        after.times = spot.times - 1;
+        return after;
     }
     let high = digit(c);
-    if high < 16 {
-        return Spot {
-            next: i + 2,
-            at: put(line, i + 1, high, area, at),
-            mark: at,
-            group: spot.group,
-        };
+    if 15 < high {
+        return after;
     }
-    repeated(line, spot, c, area)
+    after.at = put(line, spot, high, area);
+    after.next = spot.next + 1;
+    after
 }
 
-// The next area, behind a slash: two hexadecimal digits a byte; `*` and a number after a byte, or after bytes in
-// brackets, say how many times they stand.
+// The next area, behind a slash: two hexadecimal digits a byte; a number and `x` say how many times the bytes behind
+// them in brackets stand.
 pub(crate) fn fill(line: &[u8], from: usize, area: &mut [u8]) -> Got
     ensures { λ r. ⌜ r .value ≤ length (now (area .exit)) ⌝ }
 {
     let mut spot = Spot {
         next: find(line, from, b'/') + 1,
         at: 0,
-        mark: 0,
-        group: 0,
+        times: 0,
+        start: 0,
     };
-    while spot.next < line.len() {
+    let mut k: usize = 0;
+    while k < STEPS {
         let i = spot.next;
-        if line[i] == b'/' {
+        if line.len() <= i {
             return Got {
                 value: spot.at,
                 next: i,
             };
         }
-        spot = step(line, spot, area);
+        let c = line[i];
+        if c == b'/' {
+            return Got {
+                value: spot.at,
+                next: i,
+            };
+        }
+        spot.next = i + 1;
+        spot = step(line, c, spot, area);
+        k += 1;
     }
     Got {
         value: spot.at,

@@ -17,10 +17,19 @@ pub(crate) fn counted(n: usize, what: &[u8]) {
     text(what);
 }
 
+// Two numbers and what they tell.
+pub(crate) fn placed(what: &[u8], n: usize, place: usize) {
+    text(what);
+    counted(n, b" ");
+    count(place);
+}
+
 pub(crate) fn refusal(r: Refusal) {
-    text(b"refused ");
-    counted(number::refusal_number(r), b" ");
-    count(number::refusal_place(r));
+    placed(
+        b"refused ",
+        number::refusal_number(r),
+        number::refusal_place(r),
+    );
 }
 
 pub(crate) fn refused(r: Refusal) {

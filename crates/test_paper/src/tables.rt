@@ -1,70 +1,78 @@
-// Tables in lent memory: areas that are too small or too large, output that is too short, and tables that are not well formed.
-// A load has the lengths of both areas as its numbers, a writing the state count and the length of its output.
-use crate::reading;
-use crate::reading::Case;
+// Tables in lent memory: read from sheets and written to them, into areas that are large enough, too small or too large.
+// A sheet that is to be written back is written from the table that was read.
 use crate::say;
 use table::Counted;
 use table::Written;
 
-// One more of each than a table has, and more output than a case lends.
+// One label and 256 targets more than a table has, and more bytes than a case has written.
 const LABELS: usize = 256;
 
 const TARGETS: usize = 65536;
 
-const OUT: usize = 32;
+const OUT: usize = 2048;
 
-fn tell_load(sheet: &[u8], labels: &mut [u8], targets: &mut [u8]) {
-    match loading::load(sheet, labels, targets) {
-        Counted::States(s) => say::counted(s, b" states\n"),
-        Counted::Refused(r) => say::refused(r),
+fn tell_same(sheet: &[u8], out: &[u8]) {
+    if check::same(sheet, out) {
+        say::text(b"the same\n");
+    } else {
+        say::text(b"others\n");
     }
 }
 
-fn load(line: &[u8], case: Case) {
-    let mut sheet = [0u8; OUT];
-    let mut labels = [0u8; LABELS];
-    let mut targets = io::large_buffer();
-    let got = reading::fill(line, case.next, &mut sheet);
-    let end = got.value;
-    let few = case.first;
-    let many = case.second;
-    if few <= LABELS {
-        if many <= TARGETS {
-            tell_load(&sheet[0..end], &mut labels[0..few], &mut targets[0..many]);
+fn tell_back<'a>(sheet: &[u8], count: usize, labels: &'a [u8], targets: &'a [u8]) {
+    let mut out = [0u8; OUT];
+    say::counted(count, b" states ");
+    match writing::write_sheet(count, labels, targets, &mut out) {
+        Written::Bytes(end) => {
+            say::counted(end, b" bytes ");
+            if end <= OUT {
+                tell_same(sheet, &out[0..end]);
+            }
         }
-    }
-}
-
-fn tell_write<'a>(count: usize, labels: &'a [u8], targets: &'a [u8], out: &mut [u8]) {
-    match writing::write_sheet(count, labels, targets, out) {
-        Written::Bytes(end) => say::counted(end, b" bytes\n"),
         Written::Unwritten(r) => say::refused(r),
     }
 }
 
-fn write(line: &[u8], case: Case) {
-    let mut labels = [0u8; LABELS];
-    let mut targets = io::large_buffer();
-    let mut out = [0u8; OUT];
-    let few = reading::fill(line, case.next, &mut labels);
-    let many = reading::fill(line, few.next, &mut targets);
-    let end = few.value;
-    let stop = many.value;
-    let most = case.second;
-    if most <= OUT {
-        tell_write(
-            case.first,
-            &labels[0..end],
-            &targets[0..stop],
-            &mut out[0..most],
-        );
+fn load(sheet: &[u8], labels: &mut [u8], targets: &mut [u8], back: usize) {
+    match loading::load(sheet, labels, targets) {
+        Counted::States(s) => {
+            if back == 0 {
+                say::counted(s, b" states\n");
+            } else {
+                tell_back(sheet, s, labels, targets);
+            }
+        }
+        Counted::Refused(r) => {
+            if back == 0 {
+                say::refused(r);
+            } else {
+                say::text(b"refused\n");
+            }
+        }
     }
 }
 
-pub(crate) fn run(line: &[u8], case: Case) {
-    if case.call == b'l' {
-        load(line, case);
-    } else {
-        write(line, case);
+// Into areas of so many labels and targets.
+pub(crate) fn tell_load(sheet: &[u8], few: usize, many: usize, back: usize) {
+    let mut labels = [0u8; LABELS];
+    let mut targets = io::large_buffer();
+    if LABELS < few {
+        return;
+    }
+    if TARGETS < many {
+        return;
+    }
+    load(sheet, &mut labels[0..few], &mut targets[0..many], back);
+}
+
+// Into an area of so many bytes.
+pub(crate) fn tell_write<'a>(count: usize, labels: &'a [u8], targets: &'a [u8], most: usize) {
+    let mut out = [0u8; OUT];
+    if OUT < most {
+        return;
+    }
+    match writing::write_sheet(count, labels, targets, &mut out[0..most]) {
+        Written::Bytes(end) => say::counted(end, b" bytes\n"),
+        Written::Unwritten(r) => say::refused(r),
     }
 }

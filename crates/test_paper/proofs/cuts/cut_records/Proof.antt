@@ -1,4 +1,4 @@
--- `test_paper::words::cut` ends and is safe, by hand: no function that lends a list of structs is covered, so its code is walked.
+-- `test_paper::cuts::cut_records` ends and is safe, by hand: no function that lends a list of structs is covered, so its code is walked.
 -- The list's first records are lent to `cut` for a lifetime made for the call and come back; then the whole list is told.
 -- Of the two functions it calls the walk knows only that they meet their contracts. Assumes nothing.
 use mathlib.Core.Path.{_≡_, refl, sym, ap, subst, _∙_}
@@ -62,15 +62,15 @@ use Rattle.cutting.proofs.cut as cut
 use Rattle.cutting.proofs.cut.Symbol as cut-code
 use Rattle.cutting.proofs.cut.Symbol.{name as #cut}
 use Rattle.cutting.proofs.cut.Met as cut-met
-use Rattle.test_paper.proofs.words.tell as told
-use Rattle.test_paper.proofs.words.tell.Symbol as told-code
-use Rattle.test_paper.proofs.words.tell.Symbol.{name as #told}
-use Rattle.test_paper.proofs.words.tell.Met as told-met
-use Rattle.test_paper.proofs.words.cut.Key.{name as #this}
-use Rattle.test_paper.proofs.words.cut as this
-use Rattle.test_paper.proofs.words.cut.Statement as stated
-use Rattle.test_paper.proofs.words.cut.Code as code
-use Rattle.test_paper.proofs.words.cut.Code.Mir as body
+use Rattle.test_paper.proofs.cuts.tell_records as told
+use Rattle.test_paper.proofs.cuts.tell_records.Symbol as told-code
+use Rattle.test_paper.proofs.cuts.tell_records.Symbol.{name as #told}
+use Rattle.test_paper.proofs.cuts.tell_records.Met as told-met
+use Rattle.test_paper.proofs.cuts.cut_records.Key.{name as #this}
+use Rattle.test_paper.proofs.cuts.cut_records as this
+use Rattle.test_paper.proofs.cuts.cut_records.Statement as stated
+use Rattle.test_paper.proofs.cuts.cut_records.Code as code
+use Rattle.test_paper.proofs.cuts.cut_records.Code.Mir as body
 
 -- ---- an array in memory is its first k elements and the others, and is whole again with others for the first
 
@@ -404,11 +404,11 @@ module _ {M : Type 1} (𝓤 : URA M) (H : Heap 𝓤) (A : Atoms 𝓤) (W : Given
       )
       (this.clauses 𝓤 H A mem″ run) (WpFn 𝓤 H (𝓣 .C) (𝓣 .Λ) fn) (WpFn-mono 𝓤 H (W .laws) 𝓣 fn) walks)
 
-pub cut-spec : {M : Type 1} → stated.statement M
+pub cut-records-spec : {M : Type 1} → stated.statement M
 unfolding code.routine tablesOf
-cut-spec 𝓤 H 𝓜 𝓖 𝓡 =
+cut-records-spec 𝓤 H 𝓜 𝓖 𝓡 =
     entered 𝓤 H (tripleOf 𝓤 H (𝓖 .A) this.signature (this.spec 𝓤 H (𝓖 .A) (𝓜 .mem) (𝓡 .run)))
     (tables 𝓤 H 𝓜 𝓡 code.env .C) (tables 𝓤 H 𝓜 𝓡 code.env .Λ) #this code.function (code.unfolded 𝓤 H 𝓜 𝓡)
     (meets 𝓤 H (𝓖 .A) (givenOf 𝓤 H 𝓜 𝓖) (𝓜 .mem) (𝓡 .run) (tablesOf 𝓤 H 𝓜 (tables 𝓤 H 𝓜 𝓡 code.env))
     (cited 𝓤 H (Cut 𝓤 H (𝓖 .A) (𝓜 .mem) (𝓡 .run)) 𝓜 𝓡 code.env #cut cut-code.routine code.calls-cutting·cut (cut-met.met 𝓤 H 𝓜 𝓖 𝓡))
-    (cited 𝓤 H (Told 𝓤 H (𝓖 .A) (𝓜 .mem) (𝓡 .run)) 𝓜 𝓡 code.env #told told-code.routine code.calls-test-paper·words·tell (told-met.met 𝓤 H 𝓜 𝓖 𝓡)))
+    (cited 𝓤 H (Told 𝓤 H (𝓖 .A) (𝓜 .mem) (𝓡 .run)) 𝓜 𝓡 code.env #told told-code.routine code.calls-test-paper·cuts·tell-records (told-met.met 𝓤 H 𝓜 𝓖 𝓡)))
