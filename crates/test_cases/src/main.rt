@@ -1,7 +1,11 @@
 // Builds each stored book, cuts the stored text by its table, compares the book with the stored sheet, and prints what came.
 // Cases and expected output were made by the model in model/, which knows nothing of this code; docs/CASES.md says what they are.
 ghost use Prim.Native.Nat.{_≤_};
+ghost use mathlib.Core.Path.{_≡_};
 ghost use lib.ListN.{length};
+ghost use Rattle.number.specs.Limits.{tableCells};
+ghost use Rattle.table.specs.Formed.{longestSheet};
+ghost use Rattle.vector.specs.Layout.{workLength};
 use cutting::Ended;
 use cutting::RECORD_CELLS;
 use libc::STDOUT_FILENO;
@@ -24,6 +28,25 @@ const NUMBERS: usize = 1000;
 const TEXT: usize = 512;
 
 const WORDS: usize = 6;
+
+// Large areas. Only their lengths are told: a prover that sees so many cells goes through them.
+fn sheet_room() -> [u8; LONGEST_SHEET]
+    ensures { λ r. ⌜ longestSheet ≡ length r ⌝ }
+{
+    [0; LONGEST_SHEET]
+}
+
+fn targets_room() -> [u8; TABLE_CELLS]
+    ensures { λ r. ⌜ tableCells ≡ length r ⌝ }
+{
+    [0; TABLE_CELLS]
+}
+
+fn work_room() -> [u64; WORK_LENGTH]
+    ensures { λ r. ⌜ workLength ≡ length r ⌝ }
+{
+    [0; WORK_LENGTH]
+}
 
 // A file of a case, as c000.book, into a buffer; the bytes that were read.
 fn read_case(name: &[u8], buffer: &mut [u8]) -> usize
@@ -120,7 +143,7 @@ fn cut_case<'a>(count: usize, labels: &'a [u8], targets: &'a [u8], name: &[u8]) 
 
 // A table's states and the length of its sheet.
 fn say_table<'a>(count: usize, labels: &'a [u8], targets: &'a [u8]) {
-    let mut sheet = [0u8; LONGEST_SHEET];
+    let mut sheet = sheet_room();
     say_number(count);
     say(b" states, ");
     match writing::write_sheet(count, labels, targets, &mut sheet) {
@@ -136,8 +159,8 @@ fn say_table<'a>(count: usize, labels: &'a [u8], targets: &'a [u8]) {
 fn build_case(book_name: &[u8], text_name: &[u8]) {
     let mut book = [0u8; BOOK_FILE];
     let mut labels = [0u8; STATES];
-    let mut targets = [0u8; TABLE_CELLS];
-    let mut work = [0u64; WORK_LENGTH];
+    let mut targets = targets_room();
+    let mut work = work_room();
     let n = read_case(book_name, &mut book);
     match building::build(&book[0..n], &mut labels, &mut targets, &mut work) {
         Counted::States(count) => {
@@ -182,18 +205,42 @@ fn say_compared(answer: Compared, text: &[u8]) {
     }
 }
 
+// A loaded table written back: how long its sheet is, and whether it is the sheet that was loaded.
+fn say_back<'a>(sheet: &[u8], count: usize, labels: &'a [u8], targets: &'a [u8]) {
+    let mut out = sheet_room();
+    say(b"back ");
+    match writing::write_sheet(count, labels, targets, &mut out) {
+        Written::Bytes(n) => {
+            say_number(n);
+            if n <= out.len() {
+                say_same(sheet, &out[0..n]);
+            }
+        }
+        Written::Unwritten(r) => say_refused(r),
+    }
+}
+
+fn say_same(sheet: &[u8], out: &[u8]) {
+    if check::same(sheet, out) {
+        say(b" bytes, the same\n");
+    } else {
+        say(b" bytes, others\n");
+    }
+}
+
 // A book against a sheet: the sheet's faults come first, since it is loaded first; then the book's, then the walk's.
 fn compare_case(book_name: &[u8], sheet_name: &[u8]) {
     let mut book = [0u8; BOOK_FILE];
-    let mut sheet = [0u8; LONGEST_SHEET];
+    let mut sheet = sheet_room();
     let mut labels = [0u8; STATES];
-    let mut targets = [0u8; TABLE_CELLS];
+    let mut targets = targets_room();
     let mut text = [0u8; SHOWN_TEXT];
-    let mut work = [0u64; WORK_LENGTH];
+    let mut work = work_room();
     let n = read_case(book_name, &mut book);
     let m = read_case(sheet_name, &mut sheet);
     match loading::load(&sheet[0..m], &mut labels, &mut targets) {
         Counted::States(count) => {
+            say_back(&sheet[0..m], count, &labels, &targets);
             let answer = comparing::compare_book(
                 &book[0..n],
                 count,
