@@ -1,4 +1,4 @@
--- From a book to a table. Definitions, in reading order: Build, Calls, Bought; the other files prove things of these.
+-- From a book to a table. Definitions, in reading order: Build, Calls, Bought, Sample; the other files prove things of these.
 -- Main gathers the theorems that are bought.
 pub mod Build
 pub mod Calls

@@ -1,4 +1,4 @@
--- What comparing a book with a table answers. Definitions, in reading order: Compare, Calls, Demand; the other files prove things of these.
+-- What comparing a book with a table answers. Definitions, in reading order: Compare, Calls, Demand, Sample; the other files prove things of these.
 -- Main gathers the theorems that are bought.
 pub mod Compare
 pub mod Calls
