@@ -62,6 +62,12 @@ InShape (Cat a b) = InShape a × InShape b × Chained a b
 InShape (Alt a b) = InShape a × InShape b × Chosen a b
 InShape (Star a) = InShape a × Repeated a
 
+-- x is a member of a choice: neither a choice nor Nothing, it stands in it behind Alts alone
+pub data MemberOf (x : Re) : Re → Type 0 where
+  itself : isAlt x ≡ false → isNothing x ≡ false → MemberOf x x
+  from-left : {a : Re} (b : Re) → MemberOf x a → MemberOf x (Alt a b)
+  from-right : (a : Re) {b : Re} → MemberOf x b → MemberOf x (Alt a b)
+
 -- two sorted lists of members, merged; of equal members one is kept
 unfoldable pub merge : List Re → List Re → List Re
 merge [] ys = ys

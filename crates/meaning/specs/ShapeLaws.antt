@@ -272,7 +272,7 @@ kept-end (x ∷ xs) = go (isNothing x) (kept-end xs)
     go n e = rw e
 
 -- one choice alone, put through it all
-alone : (r : Re) → InShape r → nested (sorted (kept (gathered r))) ≡ r
+pub alone : (r : Re) → InShape r → nested (sorted (kept (gathered r))) ≡ r
 unfolding kept sorted nested gathered
 alone r s = go (isNothing r) refl
   where
