@@ -1,4 +1,4 @@
--- What word rules mean. Definitions, in reading order: Re, Lang, Means, Order, Normal, Derive, Limited, Rules, Words, Sample, Shape, Edges.
+-- What word rules mean. Definitions, in reading order: Re, Lang, Means, Order, Normal, Derive, Limited, Rules, Words, Sample, Clauses, Forms, Lengths, Shape, Edges.
 -- The other files prove things of these; Main gathers the theorems that are bought.
 pub mod Re
 pub mod Lang

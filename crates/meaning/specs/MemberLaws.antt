@@ -11,8 +11,8 @@ use Rattle.meaning.specs.Re.{Re, isNothing}
 use Rattle.meaning.specs.Re.Re.{Nothing, Empty, Range, Cat, Alt, Star}
 use Rattle.meaning.specs.Order.{order}
 use Rattle.meaning.specs.OrderLaws.{order-self, order-equal, order-trans}
-use Rattle.meaning.specs.Normal.{gathered, kept, placed, sorted, nested, alt, Before, Rising}
-use Rattle.meaning.specs.NormalShape.{sorted-rising}
+use Rattle.meaning.specs.Normal.{gathered, kept, placed, sorted, nested, alt, Before}
+use Rattle.meaning.specs.NormalShape.{Rising, sorted-rising}
 use Rattle.meaning.specs.Shape.{isAlt, InShape, MemberOf}
 use Rattle.meaning.specs.Shape.MemberOf.{itself, from-left, from-right}
 use Rattle.meaning.specs.ShapeLaws.{gathered-alone, alone, shape-alt}

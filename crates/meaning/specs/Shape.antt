@@ -1,5 +1,5 @@
--- What a term in normal form looks like, and the merge of two sorted choices: for the code that builds terms node by node.
--- ShapeLaws proves that the normal form has this shape, and that merging two choices in this shape is alt.
+-- What a term in normal form looks like, and the members of a choice; also the merge of two sorted choices, for the code that builds terms node by node.
+-- ShapeLaws and FormLaws prove that exactly the normal forms have this shape, and that merging two choices in this shape is alt.
 use Prim.Native.Nat.{Ordering·lt, Ordering·eq, Ordering·gt}
 use mathlib.Core.Path.{_≡_}
 use mathlib.Core.Bool.{Bool, true, false}

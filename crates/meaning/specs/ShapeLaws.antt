@@ -12,8 +12,8 @@ use Rattle.meaning.specs.Re.{Re, isNothing, isEmpty}
 use Rattle.meaning.specs.Re.Re.{Nothing, Empty, Range, Cat, Alt, Star}
 use Rattle.meaning.specs.Order.{order, turned}
 use Rattle.meaning.specs.OrderLaws.{order-turned, order-trans, order-equal}
-use Rattle.meaning.specs.Normal.{chain, cat, gathered, kept, placed, sorted, nested, alt, star, normal, Before, Rising}
-use Rattle.meaning.specs.NormalShape.{sorted-rising}
+use Rattle.meaning.specs.Normal.{chain, cat, gathered, kept, placed, sorted, nested, alt, star, normal, Before}
+use Rattle.meaning.specs.NormalShape.{Rising, sorted-rising}
 use Rattle.meaning.specs.Derive.{nullable, deriv}
 use Rattle.meaning.specs.Shape.{isCat, isAlt, InShape, merge, united}
 use Rattle.meaning.specs.Tests.{clash, is-nothing}
