@@ -1,5 +1,5 @@
 -- The textbook's clauses on texts, one after the other, as lines of the worked list's kind: what each kind of expression matches,
--- which of several rules names a text, and the first word. SampleHolds proves them all; the labels are 1 plus a rule, or 0.
+-- which of several rules names a text, and the first word. Labels are 1 plus a rule, or 0; 97 is the letter a. SampleHolds proves them all.
 use mathlib.Core.List.{List, [], _∷_}
 use Rattle.meaning.specs.Re.Re.{Nothing, Empty, Range, Cat, Alt, Star}
 use Rattle.meaning.specs.Words.Found.{Stuck, Word}

@@ -1,4 +1,4 @@
--- Document 01's sentences on normal form, and on the derivative, clause by clause: each line has what is given and the term, or the row of terms, that must come out.
+-- Document 01's sentences on normal form and on the derivative, clause by clause: each line has what is given, and the term or the vector that must come out.
 -- FormsHold has the checker compute them all.
 use Prim.Native.Nat.{ℕ}
 use mathlib.Core.List.{List, [], _∷_}
@@ -84,6 +84,8 @@ forms =
     Choice a (Alt b c) (Alt a (Alt b c)) ∷
     Choice (Alt a b) c (Alt a (Alt b c)) ∷
     Choice (Alt a b) (Alt c d) (Alt a (Alt b (Alt c d))) ∷
+    Choice (Alt a (Alt b c)) d (Alt a (Alt b (Alt c d))) ∷
+    Choice a (Alt b (Alt c d)) (Alt a (Alt b (Alt c d))) ∷
     -- Nothing dropped; none gives Nothing, one gives itself
     Choice Nothing a a ∷
     Choice a Nothing a ∷
@@ -93,6 +95,7 @@ forms =
     -- sorted: by kinds, by lo, then by hi, by the first part, then by the second
     Choice b a (Alt a b) ∷
     Choice (Alt b d) (Alt a c) (Alt a (Alt b (Alt c d))) ∷
+    Choice (Alt a (Alt b d)) c (Alt a (Alt b (Alt c d))) ∷
     Choice a Empty (Alt Empty a) ∷
     Choice (Cat a b) (Range 255 255) (Alt (Range 255 255) (Cat a b)) ∷
     Choice (Star a) (Cat b c) (Alt (Cat b c) (Star a)) ∷
@@ -112,6 +115,7 @@ forms =
     Choice a (Alt a b) (Alt a b) ∷
     Choice (Alt a b) (Alt a b) (Alt a b) ∷
     Choice (Alt a c) (Alt b c) (Alt a (Alt b c)) ∷
+    Choice (Alt a (Alt b c)) (Alt b (Alt c d)) (Alt a (Alt b (Alt c d))) ∷
     -- and no more than that: nothing else is joined, dropped or shortened
     Choice Empty (Star a) (Alt Empty (Star a)) ∷
     Choice a (Star a) (Alt a (Star a)) ∷
