@@ -100,6 +100,10 @@ lengths =
     Derived 97 (Cat (Star a) (Cat a (links 62 b b))) (long (Alt (links 62 b b) (Cat (Star a) (Cat a (links 62 b b))))) ∷
     -- a part on the way is too long, though the whole is not
     Derived 97 (Cat growing Nothing) (long Nothing) ∷
+    Derived 97 (Cat (Star b) (Cat growing Nothing)) (long Nothing) ∷
+    Derived 97 (Alt a (Cat growing Nothing)) (long Empty) ∷
+    Derived 97 (Alt (Cat growing Nothing) a) (long Empty) ∷
+    Derived 97 (Star (Cat growing Nothing)) (long Nothing) ∷
     -- Db is worked out only where the first side matches the empty text: elsewhere a Long Db is no refusal
     Derived 97 (Cat (Star b) growing) (long (links 62 a (Cat (Star a) growing))) ∷
     Derived 97 (Cat a growing) (fits growing) ∷
