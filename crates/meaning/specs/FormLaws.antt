@@ -2,15 +2,14 @@
 -- Meaning and shape alone would let a sequence or a derivative come out as another term that matches the same.
 use Prim.Native.Nat.{ℕ}
 use mathlib.Core.Path.{_≡_, refl, sym, ap, subst, _∙_}
-use mathlib.Core.Bool.{Bool, true, false, cond, _&&_, _||_}
+use mathlib.Core.Bool.{Bool, true, false, cond, _&&_}
 use mathlib.Core.Logic.{_↔_}
 use lib.Dec.{leb}
-use Rattle.number.specs.Branch.{by-cond}
 use Rattle.meaning.specs.Re.{Re, isNothing, isEmpty}
 use Rattle.meaning.specs.Re.Re.{Nothing, Empty, Range, Cat, Alt, Star}
 use Rattle.meaning.specs.Normal.{chain, cat, gathered, alt, star, normal}
 use Rattle.meaning.specs.Derive.{nullable, deriv, plain}
-use Rattle.meaning.specs.Shape.{isStar, InShape, Repeated}
+use Rattle.meaning.specs.Shape.{InShape, Repeated}
 use Rattle.meaning.specs.ShapeLaws.{alone, cat-chain, chain-one, chain-cat, cat-some, cat-long, shape-normal}
 use Rattle.meaning.specs.Tests.{clash, is-nothing, is-empty}
 

@@ -7,7 +7,7 @@ use Rattle.meaning.specs.Re.Re.{Nothing, Empty, Range, Cat, Alt, Star}
 use Rattle.meaning.specs.Normal.{cat, alt, star, normal}
 use Rattle.meaning.specs.Derive.{deriv}
 use Rattle.meaning.specs.Rules.{start, deriveBy}
-use Rattle.meaning.specs.Sample.{byte, oneOrMore, W}
+use Rattle.meaning.specs.Sample.{byte, W}
 
 -- Cat, Alt and Star of terms in normal form; the normal form of any term; the derivative by a byte;
 -- the rules' vector of state 0, and the vector after a text

@@ -1,5 +1,5 @@
 -- The theorems of this layer that are bought, together; each is proved in the file that its proof names.
--- To believe them, read only the definitions: Re, Lang, Means, Order, Normal, Derive, Limited, Rules, Words, Shape, and the worked lists, Sample, Clauses, Forms, Lengths.
+-- To believe them, read only the definitions: Re, Lang, Means, Order, Normal, Derive, Limited, Rules, Words, Shape; and the lists: Sample, Clauses, Forms, Lengths.
 use Prim.Native.Nat.{ℕ, _<_, Ordering·lt, Ordering·eq}
 use mathlib.Core.Path.{_≡_}
 use mathlib.Core.Bool.{true}

@@ -6,7 +6,6 @@ use mathlib.Core.Bool.{Bool, true, false, cond}
 use mathlib.Core.List.{List, [], _∷_, _++_}
 use mathlib.Core.Logic.{_↔_, _⊎_, inl, inr}
 use native.Mathlib.Omega.{arith}
-use Rattle.number.specs.Branch.{by-cond}
 use Rattle.meaning.specs.Re.{Re, isNothing}
 use Rattle.meaning.specs.Re.Re.{Nothing, Empty, Range, Cat, Alt, Star}
 use Rattle.meaning.specs.Order.{order}
@@ -16,7 +15,7 @@ use Rattle.meaning.specs.NormalShape.{Rising, sorted-rising}
 use Rattle.meaning.specs.Shape.{isAlt, InShape, MemberOf}
 use Rattle.meaning.specs.Shape.MemberOf.{itself, from-left, from-right}
 use Rattle.meaning.specs.ShapeLaws.{gathered-alone, alone, shape-alt}
-use Rattle.meaning.specs.Tests.{clash, is-nothing}
+use Rattle.meaning.specs.Tests.{clash}
 
 -- x stands in a list
 abbrev In : Re → List Re → Type 0
