@@ -1,4 +1,4 @@
--- What word rules mean. Definitions, in reading order: Re, Lang, Means, Order, Normal, Derive, Limited, Rules, Words, Sample, Shape, Edges.
+-- What word rules mean. Definitions, in reading order: Re, Lang, Means, Order, Normal, Derive, Limited, Rules, Words, Sample, Clauses, Forms, Lengths, Shape, Edges.
 -- The other files prove things of these; Main gathers the theorems that are bought.
 pub mod Re
 pub mod Lang
@@ -6,6 +6,7 @@ pub mod LangLaws
 pub mod Means
 pub mod Order
 pub mod OrderLaws
+pub mod RowLaws
 pub mod Normal
 pub mod Derive
 pub mod Tests
@@ -19,10 +20,17 @@ pub mod RulesMean
 pub mod Words
 pub mod WordsMean
 pub mod Sample
+pub mod Clauses
+pub mod Forms
+pub mod FormsHold
+pub mod Lengths
+pub mod LengthsHold
 pub mod SampleTests
 pub mod SampleHolds
 pub mod Shape
 pub mod ShapeLaws
+pub mod FormLaws
+pub mod MemberLaws
 pub mod SizeLaws
 pub mod Edges
 pub mod EdgeLaws

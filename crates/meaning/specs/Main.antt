@@ -1,40 +1,93 @@
 -- The theorems of this layer that are bought, together; each is proved in the file that its proof names.
--- To believe them, read only the definitions: Re, Lang, Means, Order, Normal, Derive, Limited, Rules, Words, Sample.
-use Prim.Native.Nat.{ℕ, Ordering·lt, Ordering·eq}
+-- To believe them, read only the definitions: Re, Lang, Means, Order, Normal, Derive, Limited, Rules, Words, Shape; and the lists: Sample, Clauses, Forms, Lengths.
+use Prim.Native.Nat.{ℕ, _<_, Ordering·lt, Ordering·eq}
 use mathlib.Core.Path.{_≡_}
 use mathlib.Core.Bool.{true}
-use mathlib.Core.List.{List, [], _∷_}
-use mathlib.Core.Logic.{_↔_}
-use Rattle.meaning.specs.Re.{Re, Text}
+use mathlib.Core.List.{List, [], _∷_, map}
+use mathlib.Core.Logic.{_↔_, _⊎_}
+use Rattle.meaning.specs.Re.{Re, Text, size}
+use Rattle.meaning.specs.Re.Re.{Nothing, Empty, Range, Cat, Alt, Star}
 use Rattle.meaning.specs.Means.{Matches}
 use Rattle.meaning.specs.Order.{order, turned}
 use Rattle.meaning.specs.OrderLaws.{order-self, order-equal, order-turned, order-trans}
-use Rattle.meaning.specs.Normal.{normal, sorted, Rising}
+use Rattle.meaning.specs.RowLaws.{nothing-empty, empty-range, range-cat, cat-alt, alt-star, ranges-below, cats-below, alts-below, stars-below}
+use Rattle.meaning.specs.Normal.{cat, alt, normal}
 use Rattle.meaning.specs.NormalMeans.{normal-means}
-use Rattle.meaning.specs.NormalShape.{sorted-rising}
-use Rattle.meaning.specs.Derive.{nullable, deriv}
+use Rattle.meaning.specs.Shape.{InShape, MemberOf}
+use Rattle.meaning.specs.ShapeLaws.{shape-normal, shape-deriv}
+use Rattle.meaning.specs.FormLaws.{shape-exact, cat-nothing-left, cat-nothing-right, cat-empty-left, cat-empty-right, cat-again, deriv-normal}
+use Rattle.meaning.specs.MemberLaws.{alt-is}
+use Rattle.meaning.specs.Forms.{answered, stated, forms, derivatives}
+use Rattle.meaning.specs.FormsHold.{forms-hold, derivatives-hold}
+use Rattle.meaning.specs.Derive.{nullable, deriv, plain}
 use Rattle.meaning.specs.DeriveMeans.{nullable-means, deriv-means, decide}
 use Rattle.meaning.specs.Limited.{derivFit, normalFit, derivResults, normalResults, Over}
 use Rattle.meaning.specs.Limited.Fit.{Long, Fits}
 use Rattle.meaning.specs.LimitedLaws.{deriv-long, deriv-short, normal-long, normal-short}
+use Rattle.meaning.specs.Lengths.{counted, came, due, lengths}
+use Rattle.meaning.specs.LengthsHold.{nodes-counted, lengths-hold}
 use Rattle.meaning.specs.Rules.{Names, labelAfter}
 use Rattle.meaning.specs.RulesMean.{names-after, names-one}
 use Rattle.meaning.specs.Words.{Found, FirstWord, firstWord}
 use Rattle.meaning.specs.WordsMean.{first-word, one-first-word}
 use Rattle.meaning.specs.Sample.{EachHolds, lines}
-use Rattle.meaning.specs.SampleHolds.{worked-lines}
+use Rattle.meaning.specs.Clauses.{clauses}
+use Rattle.meaning.specs.SampleHolds.{worked-lines, clauses-hold}
+
+-- the textbook's clauses on texts, line by line: what each kind matches, the first rule that does, the first word
+pub the-clauses : EachHolds clauses
+the-clauses = clauses-hold
 
 -- the derivative by c matches w exactly when the term matches c, then w
 pub the-derivative : (c : ℕ) (r : Re) (w : Text) → Matches (deriv c r) w ↔ Matches r (c ∷ w)
 the-derivative = deriv-means
 
+-- it is the normal form of the textbook's derivative
+pub the-textbook-derivative : (c : ℕ) (r : Re) → InShape r → deriv c r ≡ normal (plain c r)
+the-textbook-derivative = deriv-normal
+
+-- document 01's sentences on the derivative, line by line, and the vectors that W's rules become
+pub the-derivatives : map answered derivatives ≡ map stated derivatives
+the-derivatives = derivatives-hold
+
 -- normal form keeps meaning
 pub the-normal-form : (r : Re) (w : Text) → Matches (normal r) w ↔ Matches r w
 the-normal-form = normal-means
 
--- the members of a choice are sorted, and each stands there once
-pub the-members : (rs : List Re) → Rising (sorted rs)
-the-members = sorted-rising
+-- document 01's sentences on normal form, line by line: Cat, Alt, Star, Either, built upward, state 0's vector
+pub the-forms : map answered forms ≡ map stated forms
+the-forms = forms-hold
+
+-- a term is in shape exactly where it is its own normal form; every normal form is, and every derivative of a term that is
+pub record Shaped : Type 0 where
+  pub exact : (r : Re) → InShape r ↔ (normal r ≡ r)
+  pub of-forms : (r : Re) → InShape (normal r)
+  pub of-derivatives : (c : ℕ) (r : Re) → InShape r → InShape (deriv c r)
+
+pub the-shape : Shaped
+the-shape = record { exact = shape-exact; of-forms = shape-normal; of-derivatives = shape-deriv }
+
+-- Cat: Nothing on either side gives Nothing, Empty on a side the other side, and both ways to take three together give the same
+pub record Joined : Type 0 where
+  pub nothing-first : (r : Re) → cat Nothing r ≡ Nothing
+  pub nothing-second : (r : Re) → cat r Nothing ≡ Nothing
+  pub empty-first : (r : Re) → cat Empty r ≡ r
+  pub empty-second : (r : Re) → cat r Empty ≡ r
+  pub regrouped : (x y z : Re) → cat (cat x y) z ≡ cat x (cat y z)
+
+pub the-sequence : Joined
+the-sequence = record {
+  nothing-first = cat-nothing-left;
+  nothing-second = cat-nothing-right;
+  empty-first = cat-empty-left;
+  empty-second = cat-empty-right;
+  regrouped = cat-again;
+}
+
+-- Alt of two terms in shape: the one term in shape whose members are those of both sides
+pub the-choice : (a b r : Re) → InShape a → InShape b
+    → (InShape r × ((x : Re) → MemberOf x r ↔ (MemberOf x a ⊎ MemberOf x b))) ↔ (r ≡ alt a b)
+the-choice = alt-is
 
 -- nullable is matching the empty text
 pub the-empty-text : (r : Re) → (nullable r ≡ true) ↔ Matches r []
@@ -53,6 +106,31 @@ pub record TotalOrder : Type 0 where
 pub the-order : TotalOrder
 the-order = record { equal = λ x y. (order-equal x y, λ e. rw e (order-self y)); turns = order-turned; passes-on = order-trans }
 
+-- and it is document 01's: the kinds in their row, whatever the parts; within a kind the parts from left to right, lo before hi
+pub record InTheRow : Type 0 where
+  pub nothing-then-empty : order Nothing Empty ≡ Ordering·lt
+  pub empty-then-range : (lo hi : ℕ) → order Empty (Range lo hi) ≡ Ordering·lt
+  pub range-then-cat : (lo hi : ℕ) (a b : Re) → order (Range lo hi) (Cat a b) ≡ Ordering·lt
+  pub cat-then-alt : (a b c d : Re) → order (Cat a b) (Alt c d) ≡ Ordering·lt
+  pub alt-then-star : (a b c : Re) → order (Alt a b) (Star c) ≡ Ordering·lt
+  pub ranges : (lo hi lo′ hi′ : ℕ) → (order (Range lo hi) (Range lo′ hi′) ≡ Ordering·lt) ↔ ((lo < lo′) ⊎ ((lo ≡ lo′) × (hi < hi′)))
+  pub cats : (a b c d : Re) → (order (Cat a b) (Cat c d) ≡ Ordering·lt) ↔ ((order a c ≡ Ordering·lt) ⊎ ((a ≡ c) × (order b d ≡ Ordering·lt)))
+  pub alts : (a b c d : Re) → (order (Alt a b) (Alt c d) ≡ Ordering·lt) ↔ ((order a c ≡ Ordering·lt) ⊎ ((a ≡ c) × (order b d ≡ Ordering·lt)))
+  pub stars : (a b : Re) → (order (Star a) (Star b) ≡ Ordering·lt) ↔ (order a b ≡ Ordering·lt)
+
+pub the-kinds : InTheRow
+the-kinds = record {
+  nothing-then-empty = nothing-empty;
+  empty-then-range = empty-range;
+  range-then-cat = range-cat;
+  cat-then-alt = cat-alt;
+  alt-then-star = alt-star;
+  ranges = ranges-below;
+  cats = cats-below;
+  alts = alts-below;
+  stars = stars-below;
+}
+
 -- a limited form answers the unlimited result, or Long exactly when a result on the way passes the limit
 pub record LimitsMet : Type 0 where
   pub deriv-is : (c : ℕ) (r x : Re) → derivFit c r ≡ Fits x → x ≡ deriv c r
@@ -62,6 +140,14 @@ pub record LimitsMet : Type 0 where
 
 pub the-limits : LimitsMet
 the-limits = record { deriv-is = deriv-short; deriv-is-long = deriv-long; normal-is = normal-short; normal-is-long = normal-long }
+
+-- tree nodes: one of each kind, a term of several kinds, and three at the limit
+pub the-sizes : map size counted ≡ 1 ∷ 1 ∷ 1 ∷ 3 ∷ 3 ∷ 2 ∷ 6 ∷ 254 ∷ 255 ∷ 256 ∷ []
+the-sizes = nodes-counted
+
+-- results of 255 nodes and of 256, parts on the way that are too long, and a Db that is not worked out
+pub the-lengths : map came lengths ≡ map due lengths
+the-lengths = lengths-hold
 
 -- the label after a text, by derivatives, names the text, and nothing else does
 pub the-label : (rs : List Re) (w : Text) (l : ℕ) → Names rs w l ↔ (labelAfter rs w ≡ l)

@@ -80,8 +80,3 @@ normal (Star a) = star (normal a)
 abbrev pub Before : Re → List Re → Type 0
 Before x [] = Unit
 Before x (y ∷ ys) = order x y ≡ Ordering·lt
-
--- each stands before the next
-abbrev pub Rising : List Re → Type 0
-Rising [] = Unit
-Rising (x ∷ xs) = Before x xs × Rising xs

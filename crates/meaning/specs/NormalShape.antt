@@ -6,7 +6,12 @@ use mathlib.Core.List.{List, [], _∷_}
 use Rattle.meaning.specs.Re.{Re}
 use Rattle.meaning.specs.Order.{order, turned}
 use Rattle.meaning.specs.OrderLaws.{order-turned}
-use Rattle.meaning.specs.Normal.{placed, sorted, Before, Rising}
+use Rattle.meaning.specs.Normal.{placed, sorted, Before}
+
+-- each stands before the next
+abbrev pub Rising : List Re → Type 0
+Rising [] = Unit
+Rising (x ∷ xs) = Before x xs × Rising xs
 
 -- a member put in its place stands behind what was before it
 placed-before : (z x : Re) (ys : List Re) → order z x ≡ Ordering·lt → Before z ys → Before z (placed x ys)

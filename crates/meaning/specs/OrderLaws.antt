@@ -9,7 +9,7 @@ use Rattle.meaning.specs.Re.Re.{Nothing, Empty, Range, Cat, Alt, Star}
 use Rattle.meaning.specs.Order.{rank, also, order, turned}
 
 -- what a comparison of numbers says
-data Compared (m n : ℕ) : Ordering → Type 0 where
+pub data Compared (m n : ℕ) : Ordering → Type 0 where
   less : m < n → Compared m n Ordering·lt
   equal : m ≡ n → Compared m n Ordering·eq
   more : n < m → Compared m n Ordering·gt
@@ -19,14 +19,14 @@ compared-suc (less h) = less (omega arith)
 compared-suc (equal h) = equal (omega arith)
 compared-suc (more h) = more (omega arith)
 
-compared : (m n : ℕ) → Compared m n (compare m n)
+pub compared : (m n : ℕ) → Compared m n (compare m n)
 compared zero zero = subst (Compared zero zero) (sym compare·zero-zero) (equal refl)
 compared zero (suc n) = subst (Compared zero (suc n)) (sym (compare·zero-suc n)) (less (omega arith))
 compared (suc m) zero = subst (Compared (suc m) zero) (sym (compare·suc-zero m)) (more (omega arith))
 compared (suc m) (suc n) = subst (Compared (suc m) (suc n)) (sym (compare·suc-suc m n)) (compared-suc (compared m n))
 
 -- the comparison's answer is fixed by what it says
-compare-is : {m n : ℕ} {o p : Ordering} → Compared m n o → Compared m n p → o ≡ p
+pub compare-is : {m n : ℕ} {o p : Ordering} → Compared m n o → Compared m n p → o ≡ p
 compare-is (less h) (less k) = refl
 compare-is (less h) (equal k) = absurd (omega arith)
 compare-is (less h) (more k) = absurd (omega arith)
@@ -213,7 +213,7 @@ order-trans x y z d e = order-dict x z ∙ dict-trans (spelt x []) (spelt y []) 
 compare-self : (n : ℕ) → compare n n ≡ Ordering·eq
 compare-self n = compare-is (compared n n) (equal refl)
 
-compare-eq : {m n : ℕ} {o : Ordering} → Compared m n o → o ≡ Ordering·eq → m ≡ n
+pub compare-eq : {m n : ℕ} {o : Ordering} → Compared m n o → o ≡ Ordering·eq → m ≡ n
 compare-eq (less h) e = absurd (let z : _≡_ {A = ℕ} 0 1 = cc in omega arith)
 compare-eq (equal h) e = h
 compare-eq (more h) e = absurd (let z : _≡_ {A = ℕ} 0 1 = cc in omega arith)

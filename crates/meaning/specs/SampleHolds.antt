@@ -1,4 +1,4 @@
--- The worked lines P1 to P12 hold: one theorem for the whole list.
+-- The worked lines P1 to P12 hold, and so do the textbook's clauses on texts: one theorem for each whole list.
 -- Each claim is tested by the functions that decide it, and what they decide is a theorem already.
 use Prim.Native.Nat.{ℕ}
 use mathlib.Core.Path.{_≡_, refl, subst}
@@ -11,8 +11,9 @@ use Rattle.meaning.specs.RulesMean.{names-after}
 use Rattle.meaning.specs.Words.{Found, FirstWord, firstWord}
 use Rattle.meaning.specs.Words.Found.{Stuck, Word}
 use Rattle.meaning.specs.WordsMean.{first-word}
-use Rattle.meaning.specs.SampleTests.{sameFound, sameBytes, test, tests, lines-pass}
-use Rattle.meaning.specs.Sample.{W, Line, Holds, EachHolds, lines}
+use Rattle.meaning.specs.SampleTests.{sameFound, sameBytes, test, tests, lines-pass, clauses-pass}
+use Rattle.meaning.specs.Sample.{Line, Holds, EachHolds, lines}
+use Rattle.meaning.specs.Clauses.{clauses}
 use Rattle.meaning.specs.Sample.Line.{Named, Begins, Written}
 
 both-true : (a b : Bool) → T (a && b) → T a × T b
@@ -43,8 +44,8 @@ bytes-same (x ∷ xs) (y ∷ ys) p =
 
 test-holds : (line : Line) → T (test line) → Holds line
 unfolding test
-test-holds (Named text l) p = subst (Names W text) (eqb→eq (labelAfter W text) l p) (names-after W text)
-test-holds (Begins text found) p = subst (FirstWord W text) (found-same (firstWord W text) found p) (first-word W text)
+test-holds (Named rs text l) p = subst (Names rs text) (eqb→eq (labelAfter rs text) l p) (names-after rs text)
+test-holds (Begins rs text found) p = subst (FirstWord rs text) (found-same (firstWord rs text) found p) (first-word rs text)
 test-holds (Written n bytes) p = bytes-same (writeNumber n) bytes p
 
 tests-hold : (ls : List Line) → T (tests ls) → EachHolds ls
@@ -54,3 +55,6 @@ tests-hold (line ∷ rest) p = let q = both-true (test line) (tests rest) p in (
 
 pub worked-lines : EachHolds lines
 worked-lines = tests-hold lines lines-pass
+
+pub clauses-hold : EachHolds clauses
+clauses-hold = tests-hold clauses clauses-pass

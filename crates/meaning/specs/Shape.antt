@@ -1,5 +1,5 @@
--- What a term in normal form looks like, and the merge of two sorted choices: for the code that builds terms node by node.
--- ShapeLaws proves that the normal form has this shape, and that merging two choices in this shape is alt.
+-- What a term in normal form looks like, and the members of a choice; also the merge of two sorted choices, for the code that builds terms node by node.
+-- ShapeLaws and FormLaws prove that exactly the normal forms have this shape, and that merging two choices in this shape is alt.
 use Prim.Native.Nat.{Ordering·lt, Ordering·eq, Ordering·gt}
 use mathlib.Core.Path.{_≡_}
 use mathlib.Core.Bool.{Bool, true, false}
@@ -61,6 +61,12 @@ InShape (Range lo hi) = Unit
 InShape (Cat a b) = InShape a × InShape b × Chained a b
 InShape (Alt a b) = InShape a × InShape b × Chosen a b
 InShape (Star a) = InShape a × Repeated a
+
+-- x is a member of a choice: neither a choice nor Nothing, it stands in it behind Alts alone
+pub data MemberOf (x : Re) : Re → Type 0 where
+  itself : isAlt x ≡ false → isNothing x ≡ false → MemberOf x x
+  from-left : {a : Re} (b : Re) → MemberOf x a → MemberOf x (Alt a b)
+  from-right : (a : Re) {b : Re} → MemberOf x b → MemberOf x (Alt a b)
 
 -- two sorted lists of members, merged; of equal members one is kept
 unfoldable pub merge : List Re → List Re → List Re

@@ -12,8 +12,8 @@ use Rattle.meaning.specs.Re.{Re, isNothing, isEmpty}
 use Rattle.meaning.specs.Re.Re.{Nothing, Empty, Range, Cat, Alt, Star}
 use Rattle.meaning.specs.Order.{order, turned}
 use Rattle.meaning.specs.OrderLaws.{order-turned, order-trans, order-equal}
-use Rattle.meaning.specs.Normal.{chain, cat, gathered, kept, placed, sorted, nested, alt, star, normal, Before, Rising}
-use Rattle.meaning.specs.NormalShape.{sorted-rising}
+use Rattle.meaning.specs.Normal.{chain, cat, gathered, kept, placed, sorted, nested, alt, star, normal, Before}
+use Rattle.meaning.specs.NormalShape.{Rising, sorted-rising}
 use Rattle.meaning.specs.Derive.{nullable, deriv}
 use Rattle.meaning.specs.Shape.{isCat, isAlt, InShape, merge, united}
 use Rattle.meaning.specs.Tests.{clash, is-nothing}
@@ -272,7 +272,7 @@ kept-end (x ∷ xs) = go (isNothing x) (kept-end xs)
     go n e = rw e
 
 -- one choice alone, put through it all
-alone : (r : Re) → InShape r → nested (sorted (kept (gathered r))) ≡ r
+pub alone : (r : Re) → InShape r → nested (sorted (kept (gathered r))) ≡ r
 unfolding kept sorted nested gathered
 alone r s = go (isNothing r) refl
   where

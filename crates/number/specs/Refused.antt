@@ -47,3 +47,17 @@ pub data Answer (A : Type 0) : Type 0 where
 pub data Outcome (A : Type 0) : Type 0 where
   gives : A → Outcome A
   refuses : Refusal → Outcome A
+
+-- what the table says of an answer: the number of a row and the place that goes with it, or that it is no refusal
+pub data Row : Type 0 where
+  noRow : Row
+  row : ℕ → ℕ → Row
+
+abbrev pub rowOf : {A : Type 0} → Outcome A → Row
+rowOf (gives x) = noRow
+rowOf (refuses r) = row (number r) (place r)
+
+-- the same of a reader's answer
+abbrev pub rowRead : {A : Type 0} → Answer A → Row
+rowRead (got x next) = noRow
+rowRead (refused r) = row (number r) (place r)

@@ -1,0 +1,125 @@
+-- The shape is exact: a term is in shape exactly where it is its own normal form; and what the normal form of Cat and of a derivative is.
+-- Meaning and shape alone would let a sequence or a derivative come out as another term that matches the same.
+use Prim.Native.Nat.{ℕ}
+use mathlib.Core.Path.{_≡_, refl, sym, ap, subst, _∙_}
+use mathlib.Core.Bool.{Bool, true, false, cond, _&&_}
+use mathlib.Core.Logic.{_↔_}
+use lib.Dec.{leb}
+use Rattle.meaning.specs.Re.{Re, isNothing, isEmpty}
+use Rattle.meaning.specs.Re.Re.{Nothing, Empty, Range, Cat, Alt, Star}
+use Rattle.meaning.specs.Normal.{chain, cat, gathered, alt, star, normal}
+use Rattle.meaning.specs.Derive.{nullable, deriv, plain}
+use Rattle.meaning.specs.Shape.{InShape, Repeated}
+use Rattle.meaning.specs.ShapeLaws.{alone, cat-chain, chain-one, chain-cat, cat-some, cat-long, shape-normal}
+use Rattle.meaning.specs.Tests.{clash, is-nothing, is-empty}
+
+-- a Star in shape
+star-own : (a : Re) → Repeated a → star a ≡ Star a
+unfolding star
+star-own Nothing r = absurd (clash refl (r .some))
+star-own Empty r = absurd (clash refl (r .long))
+star-own (Range lo hi) r = refl
+star-own (Cat a b) r = refl
+star-own (Alt a b) r = refl
+star-own (Star a) r = absurd (clash refl (r .no-star))
+
+-- a choice in shape
+alt-own : (a b : Re) → InShape (Alt a b) → alt a b ≡ Alt a b
+unfolding alt gathered
+alt-own a b s = alone (Alt a b) s
+
+-- a sequence in shape
+cat-own : (a b : Re) → InShape (Cat a b) → cat a b ≡ Cat a b
+cat-own a b s =
+    cat-chain a b (s .2 .left-some) (s .2 .left-long) (s .2 .right-some) (s .2 .right-long) ∙ chain-one a b (s .2 .no-chain)
+
+-- what is in shape is its own normal form
+pub normal-own : (r : Re) → InShape r → normal r ≡ r
+unfolding normal
+normal-own Nothing s = refl
+normal-own Empty s = refl
+normal-own (Range lo hi) s = refl
+normal-own (Cat a b) s = rw (normal-own a (s .0), normal-own b (s .1)) (cat-own a b s)
+normal-own (Alt a b) s = rw (normal-own a (s .0), normal-own b (s .1)) (alt-own a b s)
+normal-own (Star a) s = rw (normal-own a (s .0)) (star-own a (s .1))
+
+pub shape-exact : (r : Re) → InShape r ↔ (normal r ≡ r)
+shape-exact r = (normal-own r, λ e. subst InShape e (shape-normal r))
+
+-- Cat: its ends, and that it may be taken together in either way
+pub cat-nothing-left : (b : Re) → cat Nothing b ≡ Nothing
+unfolding cat
+cat-nothing-left b = refl
+
+pub cat-nothing-right : (a : Re) → cat a Nothing ≡ Nothing
+unfolding cat
+cat-nothing-right Nothing = refl
+cat-nothing-right Empty = refl
+cat-nothing-right (Range lo hi) = refl
+cat-nothing-right (Cat a b) = refl
+cat-nothing-right (Alt a b) = refl
+cat-nothing-right (Star a) = refl
+
+pub cat-empty-left : (b : Re) → cat Empty b ≡ b
+unfolding cat
+cat-empty-left b = go (isNothing b) refl
+  where
+    go : (n : Bool) → isNothing b ≡ n → cond n Nothing b ≡ b
+    go true e = sym (is-nothing b e)
+    go false e = refl
+
+pub cat-empty-right : (a : Re) → cat a Empty ≡ a
+unfolding cat
+cat-empty-right Nothing = refl
+cat-empty-right Empty = refl
+cat-empty-right (Range lo hi) = refl
+cat-empty-right (Cat a b) = refl
+cat-empty-right (Alt a b) = refl
+cat-empty-right (Star a) = refl
+
+chain-again : (x y z : Re) → chain (chain x y) z ≡ chain x (chain y z)
+unfolding chain
+chain-again Nothing y z = refl
+chain-again Empty y z = refl
+chain-again (Range lo hi) y z = refl
+chain-again (Cat a b) y z = ap (Cat a) (chain-again b y z)
+chain-again (Alt a b) y z = refl
+chain-again (Star a) y z = refl
+
+pub cat-again : (x y z : Re) → cat (cat x y) z ≡ cat x (cat y z)
+cat-again x y z = go (isNothing x) (isNothing y) (isNothing z) (isEmpty x) (isEmpty y) (isEmpty z) refl refl refl refl refl refl
+  where
+    go : (m n o p q r : Bool) → isNothing x ≡ m → isNothing y ≡ n → isNothing z ≡ o → isEmpty x ≡ p → isEmpty y ≡ q → isEmpty z ≡ r
+        → cat (cat x y) z ≡ cat x (cat y z)
+    go true n o p q r a b c d e f = rw (is-nothing x a, cat-nothing-left y, cat-nothing-left z, cat-nothing-left (cat y z))
+    go false true o p q r a b c d e f = rw (is-nothing y b, cat-nothing-right x, cat-nothing-left z, cat-nothing-right x)
+    go false false true p q r a b c d e f = rw (is-nothing z c, cat-nothing-right (cat x y), cat-nothing-right y, cat-nothing-right x)
+    go false false false true q r a b c d e f = rw (is-empty x d, cat-empty-left y, cat-empty-left (cat y z))
+    go false false false false true r a b c d e f = rw (is-empty y e, cat-empty-right x, cat-empty-left z)
+    go false false false false false true a b c d e f = rw (is-empty z f, cat-empty-right (cat x y), cat-empty-right y)
+    go false false false false false false a b c d e f =
+        rw (
+          cat-chain x y a d b e,
+          cat-chain y z b e c f,
+          cat-chain (chain x y) z (cat-some (chain x y) (chain-cat x y)) (cat-long (chain x y) (chain-cat x y)) c f,
+          cat-chain x (chain y z) a d (cat-some (chain y z) (chain-cat y z)) (cat-long (chain y z) (chain-cat y z)),
+        )
+        (chain-again x y z)
+
+-- a derivative is the normal form of the textbook's
+pub deriv-normal : (c : ℕ) (r : Re) → InShape r → deriv c r ≡ normal (plain c r)
+unfolding deriv plain normal
+deriv-normal c Nothing s = refl
+deriv-normal c Empty s = refl
+deriv-normal c (Range lo hi) s = go (leb lo c && leb c hi)
+  where
+    go : (n : Bool) → cond n Empty Nothing ≡ normal (cond n Empty Nothing)
+    go true = refl
+    go false = refl
+deriv-normal c (Cat a b) s = go (nullable a) refl (deriv-normal c a (s .0)) (deriv-normal c b (s .1))
+  where
+    go : (n : Bool) → nullable a ≡ n → deriv c a ≡ normal (plain c a) → deriv c b ≡ normal (plain c b) → deriv c (Cat a b) ≡ normal (plain c (Cat a b))
+    go true e p q = rw (e, deriv, plain) (rw (p, q, normal-own b (s .1)))
+    go false e p q = rw (e, deriv, plain) (rw (p, normal-own b (s .1)))
+deriv-normal c (Alt a b) s = rw (deriv-normal c a (s .0), deriv-normal c b (s .1))
+deriv-normal c (Star a) s = rw (deriv-normal c a (s .0), normal-own a (s .0), star-own a (s .1))
