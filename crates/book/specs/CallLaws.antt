@@ -11,7 +11,7 @@ use lib.Dec.{ltb}
 use lib.ListN.{length, getD, length-append}
 use lib.Seq.{getD-append-seam}
 use Rattle.number.specs.declared.Refusal.{Refusal}
-use Rattle.number.specs.Refused.{Outcome}
+use Rattle.number.specs.Refused.{Answer, Outcome, rowOf, rowRead}
 use Rattle.number.specs.Refused.Answer.{got, refused}
 use Rattle.number.specs.Refused.Outcome.{gives, refuses}
 use Rattle.book.specs.declared.Checked.{Checked}
@@ -21,7 +21,7 @@ use Rattle.book.specs.declared.RuleKind.the-variants.{Kind, NoRule, Unkn
 use Rattle.book.specs.Book.{Rule, Book, total}
 use Rattle.book.specs.Reads.{readBook}
 use Rattle.book.specs.Places.{noRule, ruleOf}
-use Rattle.book.specs.Calls.{Size, checked, checkOf, Told, kindTold, kindOf}
+use Rattle.book.specs.Calls.{Size, checked, sizeOf, checkOf, Told, kindTold, kindIn, kindOf}
 use Rattle.book.specs.Calls.Told.{kind as tellKind, none as tellNone}
 use Rattle.book.specs.PostfixLaws.{total-nodes}
 
@@ -88,3 +88,19 @@ check-refused file q e = checked-is file (NotChecked q) (rw e refl)
 pub kind-refused : (file : List ℕ) (q : Refusal) → readBook file ≡ refused q → (i : ℕ) (k : RuleKind)
     → (kindTold k ≡ kindOf file i) ↔ (k ≡ Unknown q)
 kind-refused file q e i = kind-is file i (Unknown q) (rw e refl)
+
+-- ---- number and place are those that reading the file comes to
+
+pub check-row : (file : List ℕ) → rowOf (checkOf file) ≡ rowRead (readBook file)
+check-row file = go (readBook file)
+  where
+    go : (x : Answer Book) → rowOf (sizeOf x) ≡ rowRead x
+    go (got b after) = refl
+    go (refused q) = refl
+
+pub kind-row : (file : List ℕ) (i : ℕ) → rowOf (kindOf file i) ≡ rowRead (readBook file)
+kind-row file i = go (readBook file)
+  where
+    go : (x : Answer Book) → rowOf (kindIn x i) ≡ rowRead x
+    go (got b after) = refl
+    go (refused q) = refl

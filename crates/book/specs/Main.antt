@@ -6,7 +6,7 @@ use mathlib.Core.List.{List, [], _∷_, _++_, map, flatten}
 use mathlib.Core.Logic.{_↔_, _⊎_}
 use lib.ListN.{length, drop}
 use Rattle.number.specs.declared.Refusal.{Refusal}
-use Rattle.number.specs.Refused.{number, place}
+use Rattle.number.specs.Refused.{number, place, rowOf, rowRead}
 use Rattle.number.specs.Refused.Answer.{got, refused}
 use Rattle.number.specs.Numbers.{Bytes}
 use Rattle.meaning.specs.Re.{Re, Text, size}
@@ -34,7 +34,7 @@ use Rattle.book.specs.ReadLaws.{book-written, book-read, book-exact, boo
 use Rattle.book.specs.ReadLawsPlaces.{rule-in}
 use Rattle.book.specs.ExpressionLaws.{run-whole, expression-size}
 use Rattle.book.specs.PostfixLaws.{postfix-run, postfix-size, book-for, either-means}
-use Rattle.book.specs.CallLaws.{check-read, kind-read, kind-past, check-refused, kind-refused}
+use Rattle.book.specs.CallLaws.{check-read, kind-read, kind-past, check-refused, kind-refused, check-row, kind-row}
 
 -- what is written for a valid book is read as that book, to its end
 pub what-was-written : (b : Book) → ValidBook b → readBook (writeBook b) ≡ got b (length (writeBook b))
@@ -132,15 +132,20 @@ pub record RefusedCalls (file : List ℕ) (q : Refusal) : Type 0 where
   pub check : (r : Checked) → (checked r ≡ checkOf file) ↔ (r ≡ Refused q)
   pub rule : (i : ℕ) (k : RuleKind) → (kindTold k ≡ kindOf file i) ↔ (k ≡ Unknown q)
 
+-- for every file; and both calls refuse by the number and at the place that reading the file comes to
 pub record BookCalls (file : List ℕ) : Type 0 where
   pub read : (b : Book) (after : ℕ) → readBook file ≡ got b after → ReadCalls file b
   pub refuse : (q : Refusal) → readBook file ≡ refused q → RefusedCalls file q
+  pub check-row : rowOf (checkOf file) ≡ rowRead (readBook file)
+  pub rule-row : (i : ℕ) → rowOf (kindOf file i) ≡ rowRead (readBook file)
 
 pub the-book-calls : (file : List ℕ) → BookCalls file
 the-book-calls file =
     record {
       read = λ b after e. record { check = check-read file b after e; rule = kind-read file b after e; past = kind-past file b after e };
       refuse = λ q e. record { check = check-refused file q e; rule = kind-refused file q e };
+      check-row = check-row file;
+      rule-row = kind-row file;
     }
 
 -- the same computed for the sample books, past their ends, and for W a byte short and a byte too long
