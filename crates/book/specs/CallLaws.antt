@@ -4,10 +4,8 @@ use Prim.Native.Nat.{ℕ, _≤_, _<_}
 use native.Mathlib.Omega.{arith}
 use mathlib.Core.Path.{_≡_, refl, sym, ap, _∙_}
 use mathlib.Core.Logic.{_↔_}
-use mathlib.Core.Bool.{cond}
 use mathlib.Core.List.{List, _∷_, _++_, map, flatten}
 use borrow.Author.Tests.{lt-ltb, le-ltb}
-use lib.Dec.{ltb}
 use lib.ListN.{length, getD, length-append}
 use lib.Seq.{getD-append-seam}
 use Rattle.number.specs.declared.Refusal.{Refusal}
@@ -18,7 +16,7 @@ use Rattle.book.specs.declared.Checked.{Checked}
 use Rattle.book.specs.declared.Checked.the-variants.{Counts, Refused as NotChecked}
 use Rattle.book.specs.declared.RuleKind.{RuleKind}
 use Rattle.book.specs.declared.RuleKind.the-variants.{Kind, NoRule, Unknown}
-use Rattle.book.specs.Book.{Rule, Book, total}
+use Rattle.book.specs.Book.{Rule, Book}
 use Rattle.book.specs.Reads.{readBook}
 use Rattle.book.specs.Places.{noRule, ruleOf}
 use Rattle.book.specs.Calls.{Size, checked, sizeOf, checkOf, Told, kindTold, kindIn, kindOf}

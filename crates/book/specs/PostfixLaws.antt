@@ -11,8 +11,8 @@ use Rattle.meaning.specs.Re.{Re, Text, size}
 use Rattle.meaning.specs.Means.{OneByte, Matches}
 use Rattle.book.specs.declared.Node.{Node}
 use Rattle.book.specs.declared.Node.the-variants.{Nothing, Empty, Range, Cat, Alt, Star, Either}
-use Rattle.book.specs.Book.{Rule, Book, total}
-use Rattle.book.specs.Valid.{Leaves, ValidRule, AllValid, ValidBook}
+use Rattle.book.specs.Book.{Rule, total}
+use Rattle.book.specs.Valid.{Leaves, ValidRule, AllValid}
 use Rattle.book.specs.Expression.{stacked, runNodes, top, expression}
 use Rattle.book.specs.Postfix.{postfix, OfBytes, AllOfBytes, BookFor}
 
