@@ -21,7 +21,7 @@ pub the-lines : map printed lines ≡ map stated lines
 unfolding lines wordLine doneLine stuckLine refusedLine differsLine hexLine item decimal digitsBy quoted
 the-lines = refl
 
--- a number's digits are digits from 0 to 9 that have its value, and no zero leads them; 0 itself is in the list above
+-- a number's digits are digits from 0 to 9 that have its value, and no zero leads them; 0 is the one digit 0
 pub the-decimals : (n : ℕ) → DigitsOf n (decimal n)
 the-decimals = decimal-digits
 

@@ -52,7 +52,7 @@ decimal-digits n = by-digits DigitsOf low high n n (omega arith)
     low : (m : ℕ) → m < 10 → DigitsOf m (digit m ∷ [])
     low m h =
         rw (digit-low m h)
-        (record { value = omega arith; each = (omega arith, omega arith, tt); first = λ k. omega arith })
+        (record { value = omega arith; each = (omega arith, omega arith, tt); first = λ k. omega arith; nought = λ z. rw z refl })
 
     high : (m : ℕ) (w : List ℕ) → 10 ≤ m → DigitsOf (m / 10) w → DigitsOf m (w ++ (digit (m % 10) ∷ []))
     high m w h before =
@@ -62,6 +62,7 @@ decimal-digits n = by-digits DigitsOf low high n n (omega arith)
           value = value-last 0 w (48 + m % 10) ∙ omega (arith, before .value);
           each = each-last w (48 + m % 10) (before .each) (omega arith) (omega arith);
           first = λ k. first-kept w (48 + m % 10) (before .first (omega arith));
+          nought = λ z. absurd (omega arith);
         })
 
 -- ---- hexadecimal

@@ -17,11 +17,12 @@ abbrev pub EachDigit : List ℕ → Type 0
 EachDigit [] = Unit
 EachDigit (d ∷ w) = (48 ≤ d) × (d ≤ 57) × EachDigit w
 
--- what the digits of a number are: digits that have its value, the first of them not 0 unless the number is
+-- what the digits of a number are: digits that have its value, and no zero leads them; the number 0 is its one digit
 pub record DigitsOf (n : ℕ) (w : List ℕ) : Type 0 where
   pub value : valueFrom 0 w ≡ n
   pub each : EachDigit w
   pub first : 1 ≤ n → 49 ≤ getD w 0 0
+  pub nought : n ≡ 0 → w ≡ 48 ∷ []
 
 -- the value of a hexadecimal digit, and the bytes of a line of them, two digits a byte
 abbrev pub hexValue : ℕ → ℕ
