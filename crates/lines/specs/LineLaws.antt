@@ -20,26 +20,26 @@ module _ (k : ℕ) where
   unfolding item
   item-most n end h = simp length-append (omega (arith, decimal-most k n h))
 
-  word-most : (a b c d : ℕ) → a < 10 ^ suc k → b < 10 ^ suc k → c < 10 ^ suc k → d < 10 ^ suc k
+  pub word-most : (a b c d : ℕ) → a < 10 ^ suc k → b < 10 ^ suc k → c < 10 ^ suc k → d < 10 ^ suc k
       → length (wordLine a b c d) ≤ 4 * (k + 2)
   unfolding wordLine
   word-most a b c d ha hb hc hd =
       simp length-append
       (omega (arith, item-most a space ha, item-most b space hb, item-most c space hc, item-most d newline hd))
 
-  done-most : (n : ℕ) → n < 10 ^ suc k → length (doneLine n) ≤ 5 + (k + 2)
+  pub done-most : (n : ℕ) → n < 10 ^ suc k → length (doneLine n) ≤ 5 + (k + 2)
   unfolding doneLine
   done-most n h = simp length-append (omega (arith, item-most n newline h))
 
-  stuck-most : (n : ℕ) → n < 10 ^ suc k → length (stuckLine n) ≤ 6 + (k + 2)
+  pub stuck-most : (n : ℕ) → n < 10 ^ suc k → length (stuckLine n) ≤ 6 + (k + 2)
   unfolding stuckLine
   stuck-most n h = simp length-append (omega (arith, item-most n newline h))
 
-  refused-most : (r : Refusal) → number r < 10 ^ suc k → place r < 10 ^ suc k → length (refusedLine r) ≤ 8 + 2 * (k + 2)
+  pub refused-most : (r : Refusal) → number r < 10 ^ suc k → place r < 10 ^ suc k → length (refusedLine r) ≤ 8 + 2 * (k + 2)
   unfolding refusedLine
   refused-most r h g = simp length-append (omega (arith, item-most (number r) space h, item-most (place r) newline g))
 
-  differs-most : (a b c : ℕ) → a < 10 ^ suc k → b < 10 ^ suc k → c < 10 ^ suc k
+  pub differs-most : (a b c : ℕ) → a < 10 ^ suc k → b < 10 ^ suc k → c < 10 ^ suc k
       → length (differsLine a b c) ≤ 8 + 3 * (k + 2)
   unfolding differsLine
   differs-most a b c ha hb hc =

@@ -1,10 +1,17 @@
--- Numbers in files. Definitions, in reading order: Limits, Refused, Numbers, Reading, Lists (what writing does to memory: `written`, `Writes`).
+-- Numbers in files. Definitions, in reading order: Limits, Refused, Rows, Numbers, Faults, Reading, Lists (what writing does to memory: `written`, `Writes`), Sample; and Quoted, for lists of printed lines above.
 -- The other files, and what else Lists claims, are proved; Main gathers the theorems that are bought.
 pub mod Limits
 pub mod Refused
+pub mod Rows
 pub mod Numbers
+pub mod Faults
 pub mod Reading
 pub mod Lists
 pub mod Branch
+pub mod RowLaws
 pub mod NumberLaws
+pub mod FaultLaws
+pub mod Quoted
+pub mod Sample
+pub mod MainLaws
 pub mod Main

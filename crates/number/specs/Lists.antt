@@ -7,7 +7,7 @@ use native.Mathlib.Omega.{arith}
 use mathlib.Core.Path.{_≡_, sym, ap, _∙_}
 use mathlib.Core.List.{List, [], _∷_, _++_, append-assoc, append-nil}
 use lib.ListN.{length, getD, take, drop, set, length-append, length-take, length-drop, take-append-drop}
-use lib.Seq.{drop-cons, getD-drop, drop-drop, drop-append-seam, take-at, drop-at, length-take-le, sets-eq}
+use lib.Seq.{drop-cons, getD-drop, drop-drop, take-append-seam, drop-append-seam, take-at, drop-at, length-take-le, sets-eq}
 
 -- a byte that stands at a place and what stands after it, and so for two and three
 pub drop-one : (s : List ℕ) (at : ℕ) → at < length s → drop at s ≡ getD s at 0 ∷ drop (at + 1) s
@@ -58,6 +58,23 @@ drop-written s at w h = rw append-assoc (drop-at (take at s) (w ++ drop (at + le
 pub past-written : (s : List ℕ) (at : ℕ) (w : List ℕ) → at ≤ length s → drop (at + length w) (written s at w) ≡ drop (at + length w) s
 unfolding written
 past-written s at w h = drop-at (take at s ++ w) (drop (at + length w) s) (at + length w) (written-front s at w h)
+
+-- what stands before it, and what was written
+pub before-written : (s : List ℕ) (at : ℕ) (w : List ℕ) → at ≤ length s → take at (written s at w) ≡ take at s
+unfolding written
+before-written s at w h = rw append-assoc (take-at (take at s) (w ++ drop (at + length w) s) at (length-take-le at s h))
+
+pub there-written : (s : List ℕ) (at : ℕ) (w : List ℕ) → at ≤ length s → take (length w) (drop at (written s at w)) ≡ w
+there-written s at w h = rw (drop-written s at w h) (take-append-seam w (drop (at + length w) s))
+
+-- no other list has all this
+pub only-written : (s t : List ℕ) (at : ℕ) (w : List ℕ) → take at t ≡ take at s → take (length w) (drop at t) ≡ w
+    → drop (at + length w) t ≡ drop (at + length w) s → t ≡ written s at w
+unfolding written
+only-written s t at w before there behind =
+    let rest : w ++ drop (at + length w) s ≡ drop at t =
+    rw (← behind, ← drop-drop) (ap (λ (v : List ℕ). v ++ drop (length w) (drop at t)) (sym there) ∙ take-append-drop (length w) (drop at t)) in
+    rw (← before, append-assoc, rest) (sym (take-append-drop at t))
 
 -- one run after another is one run
 pub written-more : (s : List ℕ) (at : ℕ) (v w : List ℕ) → at ≤ length s

@@ -1,14 +1,13 @@
 -- What C got, read back: from the code and the four cells to the answer that the call gave, or to its refusal and place.
 -- specs/Main.antt proves that this is the answer that was packed, so nothing is lost on the way.
 use Prim.Native.Nat.{ℕ}
-use mathlib.Core.Bool.{cond}
-use mathlib.Core.List.{List}
+use mathlib.Core.Bool.{Bool, cond}
+use mathlib.Core.List.{List, _∷_}
 use lib.Dec.{eqb}
 use lib.ListN.{getD}
-use Rattle.number.specs.declared.Refusal.{Refusal}
-use Rattle.number.specs.declared.Refusal.the-variants.{Short, Number, Range, Stack, Tail, Long, Pool, States, Runs, Loaded, Room, Pairs, Input, Typed}
 use Rattle.number.specs.Refused.{Outcome}
 use Rattle.number.specs.Refused.Outcome.{gives, refuses}
+use Rattle.number.specs.Rows.{refusalOf}
 use Rattle.book.specs.Calls.{Size, Told as KindTold}
 use Rattle.book.specs.Calls.Told.{kind, none}
 use Rattle.cutting.specs.Cut.{Ending}
@@ -18,22 +17,9 @@ use Rattle.verdict.specs.Calls.{Told}
 use Rattle.verdict.specs.Calls.Told.{same, differs}
 use Rattle.packed.specs.Packed.{Packed}
 
--- the refusal of a number, at a place
-abbrev pub refusalOf : ℕ → ℕ → Refusal
-refusalOf n at =
-    cond (eqb n 1) (Short at)
-    (cond (eqb n 2) (Number at)
-    (cond (eqb n 3) (Range at)
-    (cond (eqb n 4) (Stack at)
-    (cond (eqb n 5) (Tail at)
-    (cond (eqb n 6) (Long at)
-    (cond (eqb n 7) (Pool at)
-    (cond (eqb n 8) (States at)
-    (cond (eqb n 9) (Runs at)
-    (cond (eqb n 10) Loaded
-    (cond (eqb n 11) Room
-    (cond (eqb n 12) (Pairs at)
-    (cond (eqb n 13) Input (Typed at)))))))))))))
+-- all five numbers in a row, the code first
+abbrev pub numbersOf : Packed → List ℕ
+numbersOf p = p .code ∷ p .cells
 
 -- the cells by their numbers
 abbrev pub cell : List ℕ → ℕ → ℕ
@@ -60,3 +46,7 @@ reportIn cells = record { ending = endingOf (cell cells 0) (cell cells 2); count
 
 abbrev pub comparedIn : List ℕ → Told
 comparedIn cells = cond (eqb (cell cells 0) 0) same (differs (cell cells 1) (cell cells 2) (cell cells 3))
+
+-- whether a table is well formed: the code alone tells
+abbrev pub testIn : Packed → Bool
+testIn p = eqb (p .code) 0
