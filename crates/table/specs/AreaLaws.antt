@@ -12,7 +12,9 @@ use lib.Seq.{take-at, drop-at}
 use Rattle.number.specs.declared.Refusal.{Refusal}
 use Rattle.number.specs.declared.Refusal.the-variants.{Room}
 use Rattle.number.specs.Limits.{states, bytes, tableCells}
+use Rattle.number.specs.Branch.{by-cond}
 use Rattle.number.specs.Refused.Answer.{got, refused}
+use Rattle.number.specs.Refused.Outcome.{gives, refuses}
 use Rattle.number.specs.Numbers.{Bytes}
 use Rattle.table.specs.Table.{Table, lent, wellFormed}
 use Rattle.table.specs.Sheet.{readSheet, writeSheet}
@@ -20,7 +22,9 @@ use Rattle.table.specs.Calls.{padded, cramped, filledWith, cleared, unto
 use Rattle.table.specs.Formed.{Formed}
 use Rattle.table.specs.Areas.{Holds, LeavesTable, LeavesZeros, LeavesAll, WritesFront, WritesNone}
 use Rattle.table.specs.SheetFormed.{formed-well, well-formed}
-use Rattle.table.specs.SheetLaws.{sheet-back}
+use Rattle.table.specs.SheetLaws.{sheet-read-back, sheet-back}
+use Rattle.table.specs.SheetBytes.{sheet-bytes}
+use Rattle.table.specs.SheetCalls.{HasSheet, write-has-sheet, write-formed}
 
 -- ---- the test for room
 
@@ -64,3 +68,69 @@ module _ (labels targets : List ℕ) where
 
   pub untouched-leaves : LeavesAll labels targets (untouched labels targets Room)
   untouched-leaves = record { answer = refl; labels = refl; targets = refl }
+
+-- ---- load
+
+module _ (file labels targets : List ℕ) where
+  pub load-read : (t : Table) (after : ℕ) → Bytes file → readSheet file ≡ got t after
+      → states ≤ length labels → tableCells ≤ length targets → LeavesTable labels targets t (loadOf file labels targets)
+  load-read t after all e h k =
+      let same : loadOf file labels targets ≡ filledWith labels targets t = simp (roomy labels targets h k, e) in
+      rw same (filled-leaves labels targets t (sheet-back file all t after e .formed) h k)
+
+  pub load-refused : (r : Refusal) → readSheet file ≡ refused r
+      → states ≤ length labels → tableCells ≤ length targets → LeavesZeros labels targets r (loadOf file labels targets)
+  load-refused r e h k =
+      let same : loadOf file labels targets ≡ cleared labels targets r = simp (roomy labels targets h k, e) in
+      rw same (cleared-leaves labels targets r)
+
+  load-cramped : cramped labels targets ≡ true → LeavesAll labels targets (loadOf file labels targets)
+  load-cramped small =
+      let same : loadOf file labels targets ≡ untouched labels targets Room = simp small in
+      rw same (untouched-leaves labels targets)
+
+  pub load-short-labels : length labels < states → LeavesAll labels targets (loadOf file labels targets)
+  load-short-labels h = load-cramped (cramped-labels labels targets h)
+
+  pub load-short-targets : length targets < tableCells → LeavesAll labels targets (loadOf file labels targets)
+  load-short-targets h = load-cramped (cramped-targets labels targets h)
+
+-- ---- write
+
+module _ (s : ℕ) (labels targets out : List ℕ) where
+  pub write-ill : (Formed (lent s labels targets) → ⊥) → WritesNone 10 out (writeOf s labels targets out)
+  write-ill unformed =
+      by-cond (WritesNone 10 out) (wellFormed s labels targets)
+      (λ well. absurd (unformed (well-formed s labels targets well)))
+      (λ ill. record { answer = refl; out = refl })
+
+  pub write-short : Formed (lent s labels targets) → length out < length (writeSheet (lent s labels targets))
+      → WritesNone 11 out (writeOf s labels targets out)
+  write-short f h =
+      let same : writeOf s labels targets out ≡ record { answer = refuses Room; out = out } =
+      simp (formed-well s labels targets f, lt-ltb (length out) (length (writeSheet (lent s labels targets))) h) in
+      rw same (record { answer = refl; out = refl })
+
+  pub write-whole : Formed (lent s labels targets) → length (writeSheet (lent s labels targets)) ≤ length out
+      → WritesFront (writeSheet (lent s labels targets)) out (writeOf s labels targets out)
+  write-whole f h =
+      let sheet : List ℕ = writeSheet (lent s labels targets) in
+      rw (write-formed s labels targets out sheet f refl h)
+      (record {
+        answer = refl;
+        front = take-at sheet (drop (length sheet) out) (length sheet) refl;
+        behind = drop-at sheet (drop (length sheet) out) (length sheet) refl;
+        long = omega (arith, length-append sheet (drop (length sheet) out), length-drop (length sheet) out);
+      })
+
+-- ---- write, then load
+
+-- the table comes back: its count, and its cells with 0 behind them
+pub write-then-load : (s : ℕ) (labels targets out : List ℕ) (n : ℕ) (labels′ targets′ : List ℕ)
+    → writeOf s labels targets out .answer ≡ gives n → states ≤ length labels′ → tableCells ≤ length targets′
+    → LeavesTable labels′ targets′ (lent s labels targets) (loadOf (take n (writeOf s labels targets out .out)) labels′ targets′)
+write-then-load s labels targets out n labels′ targets′ e h k =
+    let t : Table = lent s labels targets in
+    let told : HasSheet t n (writeOf s labels targets out .out) = write-has-sheet s labels targets out n e in
+    rw (told .front)
+    (load-read (writeSheet t) labels′ targets′ t (length (writeSheet t)) (sheet-bytes t (told .formed)) (sheet-read-back t (told .formed)) h k)

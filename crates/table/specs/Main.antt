@@ -8,22 +8,24 @@ use mathlib.Core.Logic.{_↔_}
 use lib.ListN.{length, take, drop, replicate}
 use Rattle.number.specs.declared.Refusal.{Refusal}
 use Rattle.number.specs.declared.Refusal.the-variants.{Short, Range}
-use Rattle.number.specs.Limits.{states, bytes}
+use Rattle.number.specs.Limits.{states, tableCells}
 use Rattle.number.specs.Numbers.{Bytes, due, several, readNumber, within, field, writeNumber}
 use Rattle.number.specs.Refused.Answer.{got, refused}
 use Rattle.number.specs.Refused.Outcome.{gives}
 use Rattle.table.specs.Table.{Table, lent, wellFormed}
 use Rattle.table.specs.Sheet.{Run, readRuns, readStates, sheet, readSheetTo, readSheet, countTold}
 use Rattle.table.specs.Sheet.{joined, runsOf, writeRuns, writeRow, writeStates, writeSheet}
-use Rattle.table.specs.Calls.{padded, cramped, loadOf, writeOf}
+use Rattle.table.specs.Calls.{loadOf, writeOf}
 use Rattle.table.specs.Formed.{Formed, expanded, covered, Proper, Ends, Takes, longestSheet}
+use Rattle.table.specs.Areas.{LeavesTable, LeavesZeros, LeavesAll, WritesFront, WritesNone}
 use Rattle.table.specs.SheetFormed.{well-formed-formed}
 use Rattle.table.specs.SheetRuns.{runs-expanded, runs-proper, runs-covered, runs-count, runs-first, expanded-runs}
 use Rattle.table.specs.SheetLaws.{sheet-read-back, sheet-back}
 use Rattle.table.specs.SheetBytes.{sheet-bytes, sheet-length}
 use Rattle.table.specs.SheetLongest.{longest-taken}
 use Rattle.table.specs.SheetReaders.{untold-refused, read-alike, larger-refused, few-taken, many-refused, taken-few}
-use Rattle.table.specs.SheetCalls.{sheet-one, write-then-load, load-then-write, load-well-formed, write-fits}
+use Rattle.table.specs.SheetCalls.{sheet-one, load-then-write, load-well-formed, write-fits}
+use Rattle.table.specs.AreaLaws.{load-read, load-refused, load-short-labels, load-short-targets, write-ill, write-short, write-whole, write-then-load}
 
 -- the Boolean test of lent memory tells whether the table in it is formed
 pub the-test : (s : ℕ) (labels targets : List ℕ) → (wellFormed s labels targets ≡ true) ↔ Formed (lent s labels targets)
@@ -126,15 +128,46 @@ pub the-bytes : (writeSheet twoStates ≡ itsBytes) × (readSheetTo itsBytes 128
 unfolding sheet readStates readRuns field within readNumber due several writeSheet writeStates writeRow writeRuns runsOf joined writeNumber
 the-bytes = (refl, refl, refl)
 
+-- the call of load, whatever stands in the areas before. With room for 255 states a sheet that is read leaves its table and a refused one leaves 0;
+-- where either part of the table area is short, nothing changes, whatever the file
+pub record LoadCall (file labels targets : List ℕ) : Type 0 where
+  pub read : (t : Table) (after : ℕ) → Bytes file → readSheet file ≡ got t after → states ≤ length labels → tableCells ≤ length targets
+      → LeavesTable labels targets t (loadOf file labels targets)
+  pub refused : (r : Refusal) → readSheet file ≡ refused r → states ≤ length labels → tableCells ≤ length targets
+      → LeavesZeros labels targets r (loadOf file labels targets)
+  pub short-labels : length labels < states → LeavesAll labels targets (loadOf file labels targets)
+  pub short-targets : length targets < tableCells → LeavesAll labels targets (loadOf file labels targets)
+
+pub the-load-call : (file labels targets : List ℕ) → LoadCall file labels targets
+the-load-call file labels targets =
+    record {
+      read = load-read file labels targets;
+      refused = load-refused file labels targets;
+      short-labels = load-short-labels file labels targets;
+      short-targets = load-short-targets file labels targets;
+    }
+
+-- the call of write: memory whose table is not formed is refused first, by row 10, however short the output; then a short output, by row 11;
+-- else the sheet stands at the output's front
+pub record WriteCall (s : ℕ) (labels targets out : List ℕ) : Type 0 where
+  pub ill : (Formed (lent s labels targets) → ⊥) → WritesNone 10 out (writeOf s labels targets out)
+  pub short : Formed (lent s labels targets) → length out < length (writeSheet (lent s labels targets))
+      → WritesNone 11 out (writeOf s labels targets out)
+  pub written : Formed (lent s labels targets) → length (writeSheet (lent s labels targets)) ≤ length out
+      → WritesFront (writeSheet (lent s labels targets)) out (writeOf s labels targets out)
+
+pub the-write-call : (s : ℕ) (labels targets out : List ℕ) → WriteCall s labels targets out
+the-write-call s labels targets out =
+    record {
+      ill = write-ill s labels targets out;
+      short = write-short s labels targets out;
+      written = write-whole s labels targets out;
+    }
+
 -- over the calls: a table that was written and loaded again is there, with 0 behind its cells
 pub write-and-load : (s : ℕ) (labels targets out : List ℕ) (n : ℕ) (labels′ targets′ : List ℕ)
-    → writeOf s labels targets out .answer ≡ gives n → cramped labels′ targets′ ≡ false
-    → loadOf (take n (writeOf s labels targets out .out)) labels′ targets′
-    ≡ record {
-      answer = gives s;
-      labels = padded (length labels′) (take s labels);
-      targets = padded (length targets′) (take (s * bytes) targets);
-    }
+    → writeOf s labels targets out .answer ≡ gives n → states ≤ length labels′ → tableCells ≤ length targets′
+    → LeavesTable labels′ targets′ (lent s labels targets) (loadOf (take n (writeOf s labels targets out .out)) labels′ targets′)
 write-and-load = write-then-load
 
 -- a file that was loaded and written again is there, and what stood behind it in the output stays
