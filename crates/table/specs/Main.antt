@@ -1,31 +1,33 @@
 -- The theorems about sheets that are bought, together; each is proved in the file that its proof names.
--- To believe them, read only the definitions: Table, Sheet, Calls and Formed, with number's Limits, Refused, Numbers and Reading.
-use Prim.Native.Nat.{ℕ, suc, _*_, _≤_, _<_}
+-- To believe them, read only the definitions: Table, Sheet, Calls, Formed, Areas and Samples, with number's Limits, Refused, Numbers and Reading.
+use Prim.Native.Nat.{ℕ, suc, _≤_, _<_}
 use mathlib.Core.Path.{_≡_, refl}
-use mathlib.Core.Bool.{true, false}
-use mathlib.Core.List.{List, [], _∷_, _++_}
+use mathlib.Core.Bool.{true}
+use mathlib.Core.List.{List, _∷_, _++_, map}
 use mathlib.Core.Logic.{_↔_}
 use lib.ListN.{length, take, drop, replicate}
 use Rattle.number.specs.declared.Refusal.{Refusal}
-use Rattle.number.specs.declared.Refusal.the-variants.{Short, Range}
+use Rattle.number.specs.declared.Refusal.the-variants.{Range}
 use Rattle.number.specs.Limits.{states, tableCells}
-use Rattle.number.specs.Numbers.{Bytes, due, several, readNumber, within, field, writeNumber}
+use Rattle.number.specs.Numbers.{Bytes}
 use Rattle.number.specs.Refused.Answer.{got, refused}
 use Rattle.number.specs.Refused.Outcome.{gives}
 use Rattle.table.specs.Table.{Table, lent, wellFormed}
-use Rattle.table.specs.Sheet.{Run, readRuns, readStates, sheet, readSheetTo, readSheet, countTold}
-use Rattle.table.specs.Sheet.{joined, runsOf, writeRuns, writeRow, writeStates, writeSheet}
+use Rattle.table.specs.Sheet.{Run, readSheetTo, readSheet, countTold, runsOf, writeSheet}
 use Rattle.table.specs.Calls.{loadOf, writeOf}
-use Rattle.table.specs.Formed.{Formed, expanded, covered, Proper, Ends, Takes, longestSheet}
+use Rattle.table.specs.Formed.{Formed, expanded, covered, TurnsFrom, Proper, Ends, Takes, longestSheet}
 use Rattle.table.specs.Areas.{LeavesTable, LeavesZeros, LeavesAll, WritesFront, WritesNone}
 use Rattle.table.specs.SheetFormed.{well-formed-formed}
-use Rattle.table.specs.SheetRuns.{runs-expanded, runs-proper, runs-covered, runs-count, runs-first, expanded-runs}
+use Rattle.table.specs.SheetRuns.{runs-expanded, runs-proper, runs-covered, runs-count, runs-ends, runs-first, expanded-runs}
 use Rattle.table.specs.SheetLaws.{sheet-read-back, sheet-back}
 use Rattle.table.specs.SheetBytes.{sheet-bytes, sheet-length}
 use Rattle.table.specs.SheetLongest.{longest-taken}
 use Rattle.table.specs.SheetReaders.{untold-refused, read-alike, larger-refused, few-taken, many-refused, taken-few}
 use Rattle.table.specs.SheetCalls.{sheet-one, load-then-write, load-well-formed, write-fits}
 use Rattle.table.specs.AreaLaws.{load-read, load-refused, load-short-labels, load-short-targets, write-ill, write-short, write-whole, write-then-load}
+use Rattle.table.specs.Samples.{oneState, oneBytes, twoStates, twoBytes, IsSheetOf, headGiven, headTold, headLines}
+use Rattle.table.specs.Samples.{rowGiven, rowTold, sheetLines, passGiven, passTold, memoryLines}
+use Rattle.table.specs.SampleLaws.{sheets-computed, heads-computed, rows-computed, tests-computed}
 
 -- the Boolean test of lent memory tells whether the table in it is formed
 pub the-test : (s : ℕ) (labels targets : List ℕ) → (wellFormed s labels targets ≡ true) ↔ Formed (lent s labels targets)
@@ -38,6 +40,7 @@ pub record RowRuns : Type 0 where
   pub only : (rs : List Run) → Proper rs → runsOf (expanded rs) ≡ rs
   pub covers : (row : List ℕ) → covered (runsOf row) ≡ length row
   pub count : (row : List ℕ) → length (runsOf row) ≤ length row
+  pub ends : (t : ℕ) (row : List ℕ) → Ends t row ↔ TurnsFrom t (runsOf row)
   pub first : (n t : ℕ) (rest : List ℕ) → Ends t rest
       → runsOf (replicate (suc n) t ++ rest) ≡ record { len = suc n; target = t } ∷ runsOf rest
 
@@ -49,6 +52,7 @@ the-runs =
       only = expanded-runs;
       covers = runs-covered;
       count = runs-count;
+      ends = runs-ends;
       first = runs-first;
     }
 
@@ -108,25 +112,21 @@ the-older-readers =
           (told .0 .written, told .0 .formed, told .1, told .0 .ended);
     }
 
--- heads of sheets with 128, 129, 255 and 256 states, by the reader that took 128 and by ours: past a count that is taken, a label is due
-pub the-heads :
-    (readSheetTo (1 ∷ 0x80 ∷ 0x01 ∷ []) 128 ≡ refused (Short 3)) × (readSheet (1 ∷ 0x80 ∷ 0x01 ∷ []) ≡ refused (Short 3))
-    × (readSheetTo (1 ∷ 0x81 ∷ 0x01 ∷ []) 128 ≡ refused (Range 1)) × (readSheet (1 ∷ 0x81 ∷ 0x01 ∷ []) ≡ refused (Short 3))
-    × (readSheetTo (1 ∷ 0xFF ∷ 0x01 ∷ []) 128 ≡ refused (Range 1)) × (readSheet (1 ∷ 0xFF ∷ 0x01 ∷ []) ≡ refused (Short 3))
-    × (readSheetTo (1 ∷ 0x80 ∷ 0x02 ∷ []) 128 ≡ refused (Range 1)) × (readSheet (1 ∷ 0x80 ∷ 0x02 ∷ []) ≡ refused (Range 1))
-unfolding sheet readStates field within readNumber due several
-the-heads = (refl, refl, refl, refl, refl, refl, refl, refl)
+-- the first numbers of a sheet, in eight files: what each tells as its state count, and how a reader of 128 states and ours refuse it
+pub the-heads : map headGiven headLines ≡ map headTold headLines
+the-heads = heads-computed
 
--- the bytes of one whole sheet, written out: state 0 leads by the byte 48 to state 1, which has label 1 and keeps to itself
-abbrev pub twoStates : Table
-twoStates = record { count = 2; labels = 0 ∷ 1 ∷ []; targets = replicate 48 0 ++ (1 ∷ replicate 207 0) ++ replicate 256 1 }
+-- a sheet of one state and one of two, byte by byte, written and read
+pub the-bytes : IsSheetOf oneState oneBytes × IsSheetOf twoStates twoBytes
+the-bytes = sheets-computed
 
-abbrev pub itsBytes : List ℕ
-itsBytes = 1 ∷ 2 ∷ 0 ∷ 3 ∷ 0x30 ∷ 0 ∷ 1 ∷ 1 ∷ 0xCF ∷ 0x01 ∷ 0 ∷ 1 ∷ 1 ∷ 0x80 ∷ 0x02 ∷ 1 ∷ []
+-- files that are no sheets, each with the number and the place of its refusal, and some that are: every field, every row, each order
+pub the-rows : map rowGiven sheetLines ≡ map rowTold sheetLines
+the-rows = rows-computed
 
-pub the-bytes : (writeSheet twoStates ≡ itsBytes) × (readSheetTo itsBytes 128 ≡ got twoStates 16) × (readSheet itsBytes ≡ got twoStates 16)
-unfolding sheet readStates readRuns field within readNumber due several writeSheet writeStates writeRow writeRuns runsOf joined writeNumber
-the-bytes = (refl, refl, refl)
+-- memory that holds a table and memory that does not, at each of its limits
+pub the-tests : map passGiven memoryLines ≡ map passTold memoryLines
+the-tests = tests-computed
 
 -- the call of load, whatever stands in the areas before. With room for 255 states a sheet that is read leaves its table and a refused one leaves 0;
 -- where either part of the table area is short, nothing changes, whatever the file
