@@ -16,7 +16,7 @@ use Rattle.table.specs.Table.{Table, lent, wellFormed}
 use Rattle.table.specs.Sheet.{Run, readSheetTo, readSheet, countTold, runsOf, writeSheet}
 use Rattle.table.specs.Calls.{loadOf, writeOf}
 use Rattle.table.specs.Formed.{Formed, expanded, covered, TurnsFrom, Proper, Ends, Takes, longestSheet}
-use Rattle.table.specs.Areas.{LeavesTable, LeavesZeros, LeavesAll, WritesFront, WritesNone}
+use Rattle.table.specs.Areas.{Answers, LeavesTable, LeavesZeros, LeavesAll, WritesFront, WritesNone}
 use Rattle.table.specs.SheetFormed.{well-formed-formed}
 use Rattle.table.specs.SheetRuns.{runs-expanded, runs-proper, runs-covered, runs-count, runs-ends, runs-first, expanded-runs}
 use Rattle.table.specs.SheetLaws.{sheet-read-back, sheet-back}
@@ -163,6 +163,10 @@ the-write-call s labels targets out =
       short = write-short s labels targets out;
       written = write-whole s labels targets out;
     }
+
+-- what the code answers is the paper's: a number is given as it is, a refusal is its row of the table
+pub the-answers : Answers
+the-answers = record { counts = λ n. refl; written = λ n. refl; uncounted = λ r. refl; unwritten = λ r. refl }
 
 -- over the calls: a table that was written and loaded again is there, with 0 behind its cells
 pub write-and-load : (s : ℕ) (labels targets out : List ℕ) (n : ℕ) (labels′ targets′ : List ℕ)
