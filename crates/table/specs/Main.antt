@@ -1,5 +1,5 @@
 -- The theorems about sheets that are bought, together; each is proved in the file that its proof names.
--- To believe them, read only the definitions: Table, Sheet, Calls, Formed, Areas and Samples, with number's Limits, Refused, Numbers and Reading.
+-- To believe them, read only the definitions: Table, Sheet, Calls, Formed, Faults, Areas and Samples, with number's Limits, Refused, Numbers and Reading.
 use Prim.Native.Nat.{ℕ, suc, _≤_, _<_}
 use mathlib.Core.Path.{_≡_, refl}
 use mathlib.Core.Bool.{true}
@@ -16,6 +16,7 @@ use Rattle.table.specs.Table.{Table, lent, wellFormed}
 use Rattle.table.specs.Sheet.{Run, readSheetTo, readSheet, countTold, runsOf, writeSheet}
 use Rattle.table.specs.Calls.{loadOf, writeOf}
 use Rattle.table.specs.Formed.{Formed, expanded, covered, TurnsFrom, Proper, Ends, Takes, longestSheet}
+use Rattle.table.specs.Faults.{Fault}
 use Rattle.table.specs.Areas.{Answers, LeavesTable, LeavesZeros, LeavesAll, WritesFront, WritesNone}
 use Rattle.table.specs.SheetFormed.{well-formed-formed}
 use Rattle.table.specs.SheetRuns.{runs-expanded, runs-proper, runs-covered, runs-count, runs-ends, runs-first, expanded-runs}
@@ -24,6 +25,7 @@ use Rattle.table.specs.SheetBytes.{sheet-bytes, sheet-length}
 use Rattle.table.specs.SheetLongest.{longest-taken}
 use Rattle.table.specs.SheetReaders.{untold-refused, read-alike, larger-refused, few-taken, many-refused, taken-few}
 use Rattle.table.specs.SheetCalls.{sheet-one, load-then-write, load-well-formed, write-fits}
+use Rattle.table.specs.FaultLaws.{refused-faulty, fault-one}
 use Rattle.table.specs.AreaLaws.{load-read, load-refused, load-short-labels, load-short-targets, write-ill, write-short, write-whole, write-then-load}
 use Rattle.table.specs.Samples.{oneState, oneBytes, twoStates, twoBytes, IsSheetOf, headGiven, headTold, headLines}
 use Rattle.table.specs.Samples.{rowGiven, rowTold, sheetLines, passGiven, passTold, memoryLines}
@@ -119,6 +121,14 @@ the-heads = heads-computed
 -- a sheet of one state and one of two, byte by byte, written and read
 pub the-bytes : IsSheetOf oneState oneBytes × IsSheetOf twoStates twoBytes
 the-bytes = sheets-computed
+
+-- refusals are exact: a file is refused so exactly where it is faulty so, at the place that 01 has for the fault, and no file has two refusals
+pub record SheetFaults (file : List ℕ) : Type 0 where
+  pub exact : (r : Refusal) → Bytes file → (readSheet file ≡ refused r) ↔ Fault file r
+  pub one : (q r : Refusal) → Fault file q → Fault file r → q ≡ r
+
+pub the-faults : (file : List ℕ) → SheetFaults file
+the-faults file = record { exact = refused-faulty file; one = fault-one file }
 
 -- files that are no sheets, each with the number and the place of its refusal, and some that are: every field, every row, each order
 pub the-rows : map rowGiven sheetLines ≡ map rowTold sheetLines

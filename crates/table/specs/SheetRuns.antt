@@ -11,7 +11,7 @@ use lib.ListN.{length, getD, replicate, length-append, length-replicate}
 use Rattle.number.specs.Branch.{by-cond}
 use Rattle.table.specs.Sheet.{Run, joined, runsOf}
 use Rattle.table.specs.SheetFormed.{Each, each-none, each-tail, each-append, each-replicate}
-use Rattle.table.specs.Formed.{expanded, covered, TurnsFrom, Proper, Ends}
+use Rattle.table.specs.Formed.{expanded, covered, TurnsFrom, Proper, Below, Ends}
 
 -- ---- one byte more in front
 
@@ -82,11 +82,6 @@ pub runs-covered : (row : List ℕ) → covered (runsOf row) ≡ length row
 runs-covered row = sym (covered-expanded (runsOf row)) ∙ ap length (runs-expanded row)
 
 -- ---- targets of runs
-
--- each run leads to one of s states
-abbrev pub Below : ℕ → List Run → Type 0
-Below s [] = Unit {0}
-Below s (r ∷ rs) = (r .target < s) × Below s rs
 
 joined-below : (s t : ℕ) (rs : List Run) → t < s → Below s rs → Below s (joined t rs)
 unfolding joined
