@@ -7,7 +7,7 @@ use mathlib.Core.Bool.{Bool, true, false, _||_}
 use mathlib.Core.List.{List, _++_}
 use borrow.Author.Tests.{lt-ltb, le-ltb}
 use lib.Dec.{ltb}
-use lib.ListN.{length, take, drop, replicate, length-append, length-replicate, length-drop}
+use lib.ListN.{length, take, drop, replicate, length-append, length-replicate, length-drop, take-append-drop}
 use lib.Seq.{take-at, drop-at}
 use Rattle.number.specs.declared.Refusal.{Refusal}
 use Rattle.number.specs.declared.Refusal.the-variants.{Room}
@@ -18,7 +18,7 @@ use Rattle.number.specs.Refused.Outcome.{gives, refuses}
 use Rattle.number.specs.Numbers.{Bytes}
 use Rattle.table.specs.Table.{Table, lent, wellFormed}
 use Rattle.table.specs.Sheet.{readSheet, writeSheet}
-use Rattle.table.specs.Calls.{padded, cramped, filledWith, cleared, untouched, loadOf, writeOf}
+use Rattle.table.specs.Calls.{Filled, Output, padded, cramped, filledWith, cleared, untouched, loadOf, writeOf}
 use Rattle.table.specs.Formed.{Formed}
 use Rattle.table.specs.Areas.{Holds, LeavesTable, LeavesZeros, LeavesAll, WritesFront, WritesNone}
 use Rattle.table.specs.SheetFormed.{formed-well, well-formed}
@@ -68,6 +68,33 @@ module _ (labels targets : List ℕ) where
 
   pub untouched-leaves : LeavesAll labels targets (untouched labels targets Room)
   untouched-leaves = record { answer = refl; labels = refl; targets = refl }
+
+-- ---- nothing is left open
+
+parts-same : (n : ℕ) (a b : List ℕ) → take n a ≡ take n b → drop n a ≡ drop n b → a ≡ b
+parts-same n a b front behind = sym (take-append-drop n a) ∙ (λ i. front i ++ behind i) ∙ take-append-drop n b
+
+holds-one : (n : ℕ) (cells before a b : List ℕ) → Holds n cells before a → Holds n cells before b → a ≡ b
+holds-one n cells before a b h k = parts-same n a b (h .front ∙ sym (k .front)) (h .behind ∙ sym (k .behind))
+
+pub leaves-one : (labels targets : List ℕ) (t : Table) (x y : Filled) → LeavesTable labels targets t x → LeavesTable labels targets t y → x ≡ y
+leaves-one labels targets t x y h k =
+    let one : x .labels ≡ y .labels = holds-one (t .count) (t .labels) labels _ _ (h .labels) (k .labels) in
+    let two : x .targets ≡ y .targets = holds-one (t .count * bytes) (t .targets) targets _ _ (h .targets) (k .targets) in
+    λ i. record { answer = (h .answer ∙ sym (k .answer)) i; labels = one i; targets = two i }
+
+pub zeros-one : (labels targets : List ℕ) (r : Refusal) (x y : Filled) → LeavesZeros labels targets r x → LeavesZeros labels targets r y → x ≡ y
+zeros-one labels targets r x y h k =
+    λ i. record {
+      answer = (h .answer ∙ sym (k .answer)) i;
+      labels = (h .labels ∙ sym (k .labels)) i;
+      targets = (h .targets ∙ sym (k .targets)) i;
+    }
+
+pub front-one : (sheet out : List ℕ) (x y : Output) → WritesFront sheet out x → WritesFront sheet out y → x ≡ y
+front-one sheet out x y h k =
+    let same : x .out ≡ y .out = parts-same (length sheet) _ _ (h .front ∙ sym (k .front)) (h .behind ∙ sym (k .behind)) in
+    λ i. record { answer = (h .answer ∙ sym (k .answer)) i; out = same i }
 
 -- ---- load
 

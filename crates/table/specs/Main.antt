@@ -14,7 +14,7 @@ use Rattle.number.specs.Refused.Answer.{got, refused}
 use Rattle.number.specs.Refused.Outcome.{gives}
 use Rattle.table.specs.Table.{Table, lent, wellFormed}
 use Rattle.table.specs.Sheet.{Run, readSheetTo, readSheet, countTold, runsOf, writeSheet}
-use Rattle.table.specs.Calls.{loadOf, writeOf}
+use Rattle.table.specs.Calls.{Filled, Output, loadOf, writeOf}
 use Rattle.table.specs.Formed.{Formed, expanded, covered, TurnsFrom, Proper, Ends, Takes, longestSheet}
 use Rattle.table.specs.Faults.{Fault}
 use Rattle.table.specs.Areas.{Answers, LeavesTable, LeavesZeros, LeavesAll, WritesFront, WritesNone}
@@ -26,7 +26,8 @@ use Rattle.table.specs.SheetLongest.{longest-taken}
 use Rattle.table.specs.SheetReaders.{untold-refused, read-alike, larger-refused, few-taken, many-refused, taken-few}
 use Rattle.table.specs.SheetCalls.{sheet-one, load-then-write, load-well-formed, write-fits}
 use Rattle.table.specs.FaultLaws.{refused-faulty, fault-one}
-use Rattle.table.specs.AreaLaws.{load-read, load-refused, load-short-labels, load-short-targets, write-ill, write-short, write-whole, write-then-load}
+use Rattle.table.specs.AreaLaws.{load-read, load-refused, load-short-labels, load-short-targets, write-ill, write-short, write-whole}
+use Rattle.table.specs.AreaLaws.{leaves-one, zeros-one, front-one, write-then-load}
 use Rattle.table.specs.Samples.{oneState, oneBytes, twoStates, twoBytes, IsSheetOf, headGiven, headTold, headLines}
 use Rattle.table.specs.Samples.{rowGiven, rowTold, sheetLines, passGiven, passTold, memoryLines}
 use Rattle.table.specs.SampleLaws.{sheets-computed, heads-computed, rows-computed, tests-computed}
@@ -173,6 +174,15 @@ the-write-call s labels targets out =
       short = write-short s labels targets out;
       written = write-whole s labels targets out;
     }
+
+-- what is said of these calls where they fill an area, clear it or write leaves nothing open: two outcomes of which it holds are one
+pub record OneOutcome : Type 0 where
+  pub table : (labels targets : List ℕ) (t : Table) (x y : Filled) → LeavesTable labels targets t x → LeavesTable labels targets t y → x ≡ y
+  pub zeros : (labels targets : List ℕ) (r : Refusal) (x y : Filled) → LeavesZeros labels targets r x → LeavesZeros labels targets r y → x ≡ y
+  pub front : (sheet out : List ℕ) (x y : Output) → WritesFront sheet out x → WritesFront sheet out y → x ≡ y
+
+pub one-outcome : OneOutcome
+one-outcome = record { table = leaves-one; zeros = zeros-one; front = front-one }
 
 -- what the code answers is the paper's: a number is given as it is, a refusal is its row of the table
 pub the-answers : Answers
