@@ -6,7 +6,7 @@ use mathlib.Core.List.{List}
 use lib.ListN.{length, take, drop, replicate}
 use Rattle.number.specs.declared.Refusal.{Refusal}
 use Rattle.number.specs.Limits.{bytes}
-use Rattle.number.specs.Refused.{number, place, Row, rowOf}
+use Rattle.number.specs.Refused.{number, place, rowOf}
 use Rattle.number.specs.Refused.Row.{row}
 use Rattle.number.specs.Refused.Outcome.{gives, refuses}
 use Rattle.table.specs.declared.Counted.the-variants.{States, Refused}

@@ -12,16 +12,16 @@ use lib.ListN.{length, getD, take, drop, length-append, length-drop, take-append
 use lib.Seq.{take-append-le, take-at, drop-at, drop-append-seam, length-take-le}
 use Rattle.number.specs.declared.Refusal.{Refusal}
 use Rattle.number.specs.declared.Refusal.the-variants.{Tail, Runs}
-use Rattle.number.specs.Limits.{threeGroups, version, rules, states, bytes}
+use Rattle.number.specs.Limits.{version, rules, states, bytes}
 use Rattle.number.specs.Refused.{Answer}
 use Rattle.number.specs.Refused.Answer.{got, refused}
 use Rattle.number.specs.Numbers.{Bytes, field, writeNumber}
 use Rattle.number.specs.Reading.{Reader, onward}
 use Rattle.number.specs.Lists.{drop-one}
 use Rattle.table.specs.Table.{Table}
-use Rattle.table.specs.Sheet.{Rows, Run, readRuns, readStates, sheet, readSheet}
-use Rattle.table.specs.Sheet.{runsOf, writeRuns, writeRow, writeStates, writeSheet}
-use Rattle.table.specs.Formed.{Formed, covered, TurnsFrom, Proper, Below}
+use Rattle.table.specs.Sheet.{Run, readRuns, readStates, sheet, readSheet}
+use Rattle.table.specs.Sheet.{writeRuns, writeRow, writeStates, writeSheet}
+use Rattle.table.specs.Formed.{covered, TurnsFrom, Proper, Below}
 use Rattle.table.specs.Faults.{Begun, InState, stateBytes, Due, Fault}
 use Rattle.table.specs.Faults.Due.{dueVersion, dueCount, dueLabel, dueRuns, dueLength, dueTarget}
 use Rattle.table.specs.Faults.Fault.{number, passes, equal, low, tail}
