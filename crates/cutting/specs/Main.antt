@@ -1,5 +1,5 @@
 -- The theorems of cutting that are bought, together; each is proved in the file that its proof names.
--- To believe them, read the definitions: Steps, Cut, Tiles, Pieces, Calls, Flat, Left, Sample, and meaning's Words.
+-- To believe them, read the definitions: Steps, Cut, Tiles, Pieces, Calls, Flat, Left, Promises, Sample, and meaning's Words.
 use Prim.Native.Nat.{ℕ, _+_, _*_, _/_, _≤_}
 use mathlib.Core.Path.{_≡_, refl, ap}
 use mathlib.Core.Bool.{true, false}
@@ -22,8 +22,10 @@ use Rattle.cutting.specs.Tiles.{On}
 use Rattle.cutting.specs.TileLaws.{cut-enough, not-full, cut-on}
 use Rattle.cutting.specs.Pieces.{Tiled}
 use Rattle.cutting.specs.PieceLaws.{cut-tiled}
-use Rattle.cutting.specs.Calls.{Report, cutFromOf}
+use Rattle.cutting.specs.declared.Ended.{Ended}
+use Rattle.cutting.specs.Calls.{Report, ended, cutFromOf}
 use Rattle.cutting.specs.Flat.{cutCellsOf}
+use Rattle.cutting.specs.Promises.{CutsInto, CutsWords}
 use Rattle.cutting.specs.Left.{numbersOf, Leaves}
 use Rattle.cutting.specs.LeftLaws.{records-left, cells-left, calls-agree, unformed, nothing-left}
 use Rattle.cutting.specs.Sample.{lines, recordsOf, statedRecords, cellsOf, statedCells, worked-lines}
@@ -69,6 +71,17 @@ pub the-cells : (s : ℕ) (labels targets : List ℕ) (text : Text) (at : ℕ) �
     → Leaves numbersOf (lent s labels targets) text at (length cells / 3) cells (cutCellsOf s labels targets text at cells .answer)
     (cutCellsOf s labels targets text at cells .cells)
 the-cells = cells-left
+
+-- and this is what the code's two calls promise, `cut` from the start of the text
+pub the-promises : (s : ℕ) (labels targets : List ℕ) (text : Text) → wellFormed s labels targets ≡ true
+    → ((before after : List Word) (r : Ended) → CutsWords s labels targets text before after r
+    → Leaves (λ ws. ws) (lent s labels targets) text 0 (length before) before (ended r) after)
+    × ((at : ℕ) (before after : List ℕ) (r : Ended) → CutsInto s labels targets text at before after r
+    → Leaves numbersOf (lent s labels targets) text at (length before / 3) before (ended r) after)
+the-promises s labels targets text e = (
+  λ before after r p. rw (p .answer, p .records) (the-records s labels targets text 0 e before),
+  λ at before after r p. rw (p .answer, p .cells) (the-cells s labels targets text at e before),
+)
 
 -- where both have room for as many words they answer alike, and the cells are the records' numbers: start, length, rule
 pub the-agreement : (s : ℕ) (labels targets : List ℕ) (text : Text) (at : ℕ) (records : List Word) (cells : List ℕ) → length records ≡ length cells / 3

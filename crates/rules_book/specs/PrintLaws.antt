@@ -1,5 +1,5 @@
 -- Why rules_book keeps its promise: a text that is too long is refused, and one that fits its file is answered as type_rules answers it.
--- The room that is asked for is room enough, and a book that is given lies within it. Then what the promise says of a file.
+-- The room that is asked for is room enough, and a book that is given lies within it.
 use Prim.Native.Nat.{ℕ, _≤_, _<_}
 use native.Mathlib.Omega.{arith}
 use mathlib.Core.Path.{_≡_, refl, sym, ap, _∙_}
@@ -8,8 +8,7 @@ use lib.ListN.{length}
 use borrow.Author.Tests.{lt-ltb, le-ltb}
 use Rattle.number.specs.declared.Refusal.the-variants.{Input}
 use Rattle.number.specs.Limits.{rulesFile, typedArea}
-use Rattle.number.specs.Refused.{Outcome, rowOf}
-use Rattle.number.specs.Refused.Row.{row}
+use Rattle.number.specs.Refused.{Outcome}
 use Rattle.number.specs.Refused.Outcome.{gives, refuses}
 use Rattle.table.specs.declared.Written.{Written}
 use Rattle.table.specs.declared.Written.the-variants.{Unwritten}
@@ -47,20 +46,3 @@ module _ (text out : List ℕ) (r : Written) (out′ : List ℕ) (room : typedAr
         output = rw z output-typed;
         inside = λ n e. short-book out n (bookBytes text) (λ bytes h. the-length text bytes h .1) (sym (ap wrote e) ∙ answer-typed);
       }
-
--- ---- what the promise says, for specs/Main.antt
-
-pub long-refused : (text out : List ℕ) (r : Written) (out′ : List ℕ) → MakesBook text out r out′ → rulesFile < length text
-    → (rowOf (wrote r) ≡ row 13 0) × (out′ ≡ out)
-unfolding rulesBytes
-long-refused text out r out′ b h =
-    let z = lt-ltb rulesFile (length text) h in
-    (ap rowOf (rw z at (b .answer)), rw z at (b .output))
-
-pub short-typed : (text out : List ℕ) (r : Written) (out′ : List ℕ) → typedArea ≤ length out → MakesBook text out r out′ → length text ≤ rulesFile
-    → Types text out r out′
-unfolding rulesBytes
-short-typed text out r out′ room b h =
-    let z = le-ltb rulesFile (length text) h in
-    let y = le-ltb (length out) typedArea room in
-    record { answer = rw y (rw z at (b .answer)); output = rw y (rw z at (b .output)) }
