@@ -2,11 +2,12 @@
 -- Theorems and code cite the same laws.
 use Prim.Native.Nat.{ℕ, _≤_, _<_}
 use mathlib.Core.Path.{_≡_, refl, sym, _∙_}
-use mathlib.Core.List.{List, []}
-use lib.ListN.{length}
+use native.Mathlib.Omega.{arith}
+use mathlib.Core.List.{List, [], _∷_, map}
+use lib.ListN.{length, replicate}
 use borrow.Author.Tests.{eq-eqb, ne-eqb, lt-ltb, le-ltb}
 use Rattle.number.specs.declared.Refusal.{Refusal}
-use Rattle.number.specs.declared.Refusal.the-variants.{Range, Typed}
+use Rattle.number.specs.declared.Refusal.the-variants.{Short, Number, Range, Stack, Tail, Long, Pool, States, Runs, Loaded, Room, Pairs, Input, Typed}
 use Rattle.number.specs.Limits.{rulesFile}
 use Rattle.meaning.specs.Re.{Text}
 use Rattle.typed.specs.Quoted.{quoted}
@@ -39,3 +40,12 @@ unread-told text r h = sym (rw (lt-ltb rulesFile (length text) h) refl)
 pub read-told : (text : Text) (r : Refusal) → length text ≤ rulesFile → adviceOn text r ≡ adviceOf text r
 unfolding adviceOf
 read-told text r h = sym (rw (le-ltb rulesFile (length text) h) refl)
+
+-- what is told nothing of
+pub untold : (text : Text) (p : ℕ) → 0 < length text → length text ≤ rulesFile
+    → (map (adviceOf text) (Short p ∷ Number p ∷ Stack p ∷ Tail p ∷ Long p ∷ Pool p ∷ States p ∷ Runs p ∷ Loaded ∷ Room ∷ Pairs p ∷ Input ∷ []) ≡ replicate 12 [])
+    × (length text < p → map (adviceOf text) (Typed p ∷ Range p ∷ []) ≡ replicate 2 [])
+unfolding adviceOf adviceOn
+untold text p some fits =
+    rw (le-ltb rulesFile (length text) fits)
+    (refl, λ h. rw (ne-eqb (length text) 0 (λ z. omega arith), lt-ltb (length text) p h) refl)

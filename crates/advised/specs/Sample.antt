@@ -1,4 +1,4 @@
--- Advice on five texts, as people see it: a name that no set has, a text that ends too early, one that starts wrongly, no rule, and too large a kind.
+-- Advice on six texts, as people see it: a name that no set has, a text that ends too early, one that starts wrongly, bytes that cannot be printed and two that just can, no rule, and too large a kind.
 -- SampleLaws has the checker compute each from the definitions, byte by byte, so a definition that says something else is refused there.
 use Prim.Native.String.{String, _++_}
 use mathlib.Core.Path.{_≡_}
@@ -38,6 +38,12 @@ cases =
     ("?b\n" ++
     ("^\n" ++
     "here could stand: 0-9\n"))
+    ) ∷
+    Advised "1:a\n2:b\n3:c~\u{1f}\u{7f}ÿ d\n" (Typed 11) (
+    "words.rules, line 3, column 4: no rule goes on with this byte.\n" ++
+    ("3:c~??? d\n" ++
+    ("   ^\n" ++
+    "here could stand: newline space ( * + . 0-9 < ? A-Z \\ a-z |\n"))
     ) ∷
     Advised "" (Range 0) "words.rules has no rule.\n" ∷
     Advised "1:a\n16384:b\n" (Range 4) (

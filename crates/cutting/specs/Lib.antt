@@ -1,9 +1,11 @@
--- Cutting a text by a table. Definitions, in reading order: Steps, Cut, Tiles, Calls, Flat, Dead, Turns, Promises; the other files prove things of these.
+-- Cutting a text by a table. Definitions, in reading order: Steps, Cut, Tiles, Pieces, Calls, Flat, Left, Dead, Turns, Promises, Sample; the other files prove things of these.
 -- Main gathers the theorems that are bought.
 pub mod Steps
 pub mod Cut
 pub mod CutLaws
 pub mod Tiles
+pub mod Pieces
+pub mod PieceLaws
 pub mod TileLaws
 pub mod Calls
 pub mod Flat
@@ -14,4 +16,7 @@ pub mod DeadLaws
 pub mod WalkLaws
 pub mod TurnLaws
 pub mod LayLaws
+pub mod Left
+pub mod LeftLaws
+pub mod Sample
 pub mod Main

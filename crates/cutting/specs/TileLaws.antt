@@ -1,10 +1,10 @@
--- The words of a cut tile the text, there are no more of them than records, and cutting on from a full list is cutting the rest.
--- What is asked of a first word is only that it is not empty and lies within the text.
+-- There are no more words than records, and cutting on from a full list is cutting the rest.
+-- A cut that was not full needs no more records.
 use Prim.Native.Nat.{ℕ, zero, suc, _+_, _-_, _<_, _≤_}
 use mathlib.Core.Path.{_≡_, refl, sym, ap, subst, _∙_}
 use mathlib.Core.List.{[], _∷_}
 use native.Mathlib.Omega.{arith}
-use lib.ListN.{length, drop, length-drop}
+use lib.ListN.{length, drop}
 use lib.Seq.{drop-drop}
 use Rattle.meaning.specs.Re.{Text}
 use Rattle.meaning.specs.Words.{Found}
@@ -12,21 +12,7 @@ use Rattle.meaning.specs.Words.Found.{Stuck, Word as Found·word}
 use Rattle.cutting.specs.Cut.{Ending, Cut, wordAt, before, Cuts, cutBy}
 use Rattle.cutting.specs.Cut.Ending.{Done, StuckAt, FullAt}
 use Rattle.cutting.specs.Cut.Cuts.{done, stuck, full, word}
-use Rattle.cutting.specs.Tiles.{Tiles, endOf, Finished, On}
-
-module _ (F : Text → Found → Type 0) (proper : (text : Text) (n r : ℕ) → F text (Found·word n r) → (0 < n) × (n ≤ length text)) where
-  end-on : (at n : ℕ) (text : Text) (e : Ending) → n ≤ length text → endOf (at + n) (drop n text) e ≡ endOf at text e
-  end-on at n text Done h = let l = length-drop n text in omega arith
-  end-on at n text (StuckAt p) h = refl
-  end-on at n text (FullAt p) h = refl
-
-  pub cut-tiles : {room at : ℕ} {text : Text} {x : Cut} → Cuts F room at text x → Tiles at (x .words) (endOf at text (x .ending))
-  cut-tiles (done room at) = omega arith
-  cut-tiles (stuck room at c w p) = refl
-  cut-tiles (full at c w n r p) = refl
-  cut-tiles (word room at c w n r x p d) =
-      let b = proper (c ∷ w) n r p in
-      (refl, b .0, subst (Tiles (at + n) (x .words)) (end-on at n (c ∷ w) (x .ending) (b .1)) (cut-tiles d))
+use Rattle.cutting.specs.Tiles.{Finished, On}
 
 -- no more words than records, and a full list has none free
 pub cut-few : {F : Text → Found → Type 0} {room at : ℕ} {text : Text} {x : Cut} → Cuts F room at text x → length (x .words) ≤ room
@@ -58,6 +44,12 @@ module _ (first : Text → Found) where
       go (Found·word n r) e ih g =
           let d : suc m + k ≡ suc (m + k) = omega arith in
           rw (d, e, cutBy) (ap (before (wordAt at n r)) (ih (at + n) (drop n (c ∷ w)) (rw (e, cutBy) at g)))
+
+  -- told of the ending alone
+  pub not-full : (e : Ending) → ((p : ℕ) → e ≡ FullAt p → ⊥) → Finished e
+  not-full Done n = tt
+  not-full (StuckAt p) n = tt
+  not-full (FullAt p) n = n p refl
 
   full-place : {p q : ℕ} → FullAt p ≡ FullAt q → p ≡ q
   full-place e = cc

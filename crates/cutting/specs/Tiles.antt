@@ -1,9 +1,9 @@
 -- Words that tile a text from a place on: each starts where the one before it ended, and none is empty.
--- Also where a cut has come to when it ends, and how one goes on from there.
+-- Also how a cut goes on from where its records were used up.
 use Prim.Native.Nat.{ℕ, _+_, _-_, _<_, _≤_}
 use mathlib.Core.Path.{_≡_}
 use mathlib.Core.List.{List, [], _∷_, _++_}
-use lib.ListN.{length, drop}
+use lib.ListN.{drop}
 use Rattle.meaning.specs.Re.{Text}
 use Rattle.meaning.specs.Words.{Found}
 use Rattle.cutting.specs.declared.Word.{Word}
@@ -13,12 +13,6 @@ use Rattle.cutting.specs.Cut.Ending.{Done, StuckAt, FullAt}
 abbrev pub Tiles : ℕ → List Word → ℕ → Type 0
 Tiles at [] end = at ≡ end
 Tiles at (w ∷ ws) end = (w .start ≡ at) × (0 < w .len) × Tiles (at + w .len) ws end
-
--- the place that a cut of a text which starts at `at` has come to
-abbrev pub endOf : ℕ → Text → Ending → ℕ
-endOf at text Done = at + length text
-endOf at text (StuckAt p) = p
-endOf at text (FullAt p) = p
 
 -- a cut ended for another reason than that its records were used up
 abbrev pub Finished : Ending → Type 0

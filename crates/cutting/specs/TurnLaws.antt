@@ -66,7 +66,7 @@ module _ (s : ℕ) (labels targets : List ℕ) (text : Text) (at room : ℕ) whe
 -- ---- one step of the definition
 
 module _ (first : Text → Found) where
-  cut-nothing : (room at : ℕ) → cutBy first room at [] ≡ ends Ending·done
+  pub cut-nothing : (room at : ℕ) → cutBy first room at [] ≡ ends Ending·done
   unfolding cutBy
   cut-nothing zero at = refl
   cut-nothing (suc room) at = refl

@@ -14,7 +14,7 @@ use borrow.Author.Tests.{ltb-true, ltb-false}
 use Rattle.number.specs.declared.Refusal.{Refusal}
 use Rattle.number.specs.declared.Refusal.the-variants.{Range, Typed}
 use Rattle.number.specs.Branch.{by-cond}
-use Rattle.number.specs.Limits.{deep, typedArea, rulesFile}
+use Rattle.number.specs.Limits.{deep, typedArea}
 use Rattle.number.specs.Refused.{Outcome}
 use Rattle.number.specs.Refused.Outcome.{gives, refuses}
 use Rattle.meaning.specs.Re.{Text}
@@ -158,10 +158,6 @@ pub the-hex-values : map hex (quoted "0123456789ABCDEFabcdef")
     ≡ map some (0 ∷ 1 ∷ 2 ∷ 3 ∷ 4 ∷ 5 ∷ 6 ∷ 7 ∷ 8 ∷ 9 ∷ 10 ∷ 11 ∷ 12 ∷ 13 ∷ 14 ∷ 15 ∷ 10 ∷ 11 ∷ 12 ∷ 13 ∷ 14 ∷ 15 ∷ [])
 unfolding hex between quoted
 the-hex-values = refl
-
--- parentheses that may be open, the bytes that a call asks for, and the largest file of rules
-pub the-limits : (deep ≡ 32) × (typedArea ≡ 4096) × (rulesFile ≡ 32768)
-the-limits = (refl, refl, refl)
 
 -- ---- the sets
 

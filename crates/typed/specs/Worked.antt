@@ -4,8 +4,9 @@ use Prim.Native.Nat.{ℕ}
 use Prim.Native.String.{String, _++_}
 use mathlib.Core.Path.{_≡_}
 use mathlib.Core.List.{List, [], _∷_}
-use Rattle.number.specs.Refused.{Outcome, number, place}
-use Rattle.number.specs.Refused.Outcome.{gives, refuses}
+use Rattle.number.specs.Refused.{rowOf}
+use Rattle.number.specs.Refused.Row.{row}
+use Rattle.number.specs.Refused.Outcome.{gives}
 use Rattle.book.specs.Sample.{wBytes}
 use Rattle.typed.specs.Calls.{bookBytes}
 use Rattle.typed.specs.Quoted.{quoted, again}
@@ -15,13 +16,9 @@ pub data Case : Type 0 where
   Given : String → List ℕ → Case
   Refused : String → ℕ → ℕ → Case
 
-abbrev pub RefusedAs : Outcome (List ℕ) → ℕ → ℕ → Type 0
-RefusedAs (gives bytes) n p = ⊥
-RefusedAs (refuses r) n p = (number r ≡ n) × (place r ≡ p)
-
 abbrev pub Holds : Case → Type 0
 Holds (Given text bytes) = bookBytes (quoted text) ≡ gives bytes
-Holds (Refused text n p) = RefusedAs (bookBytes (quoted text)) n p
+Holds (Refused text n p) = rowOf (bookBytes (quoted text)) ≡ row n p
 
 abbrev pub EachHolds : List Case → Type 0
 EachHolds [] = Unit

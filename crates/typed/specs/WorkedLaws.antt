@@ -6,7 +6,8 @@ use mathlib.Core.Bool.{Bool, true, false, _&&_}
 use mathlib.Core.List.{List, [], _∷_}
 use lib.Dec.{T, eqb, eqb→eq}
 use Rattle.number.specs.Numbers.{writeNumber}
-use Rattle.number.specs.Refused.{Outcome, number, place}
+use Rattle.number.specs.Refused.{Outcome, number, place, rowOf}
+use Rattle.number.specs.Refused.Row.{row}
 use Rattle.number.specs.Refused.Outcome.{gives, refuses}
 use Rattle.meaning.specs.SampleTests.{sameBytes}
 use Rattle.book.specs.Book.{writeNode, writeNodes, writeRule, writeRules, writeBook}
@@ -21,7 +22,7 @@ use Rattle.typed.specs.LineReader.{begins, colon, onDigit, ends, stepped
 use Rattle.typed.specs.Calls.{bookOf, outOf, fault, startOf, ranged, answered, bookBytes}
 use Rattle.typed.specs.Quoted.{quoted, again}
 use Rattle.typed.specs.TestLaws.{both-hold}
-use Rattle.typed.specs.Worked.{Case, RefusedAs, Holds, EachHolds, cases}
+use Rattle.typed.specs.Worked.{Case, Holds, EachHolds, cases}
 use Rattle.typed.specs.Worked.Case.{Given, Refused}
 
 unfoldable isBook : Outcome (List ℕ) → List ℕ → Bool
@@ -64,10 +65,14 @@ unfolding isBook
 book-holds (gives xs) bytes p = ap gives (same-bytes xs bytes p)
 book-holds (refuses r) bytes p = absurd p
 
-refusal-holds : (o : Outcome (List ℕ)) (n p : ℕ) → T (isRefusal o n p) → RefusedAs o n p
+refusal-holds : (o : Outcome (List ℕ)) (n p : ℕ) → T (isRefusal o n p) → rowOf o ≡ row n p
 unfolding isRefusal
 refusal-holds (gives xs) n p h = absurd h
-refusal-holds (refuses r) n p h = let q = both-hold (eqb (number r) n) (eqb (place r) p) h in (eqb→eq (number r) n (q .0), eqb→eq (place r) p (q .1))
+refusal-holds (refuses r) n p h =
+    let q = both-hold (eqb (number r) n) (eqb (place r) p) h in
+    let d = eqb→eq (number r) n (q .0) in
+    let e = eqb→eq (place r) p (q .1) in
+    λ i. row (d i) (e i)
 
 test-holds : (x : Case) → T (test x) → Holds x
 unfolding test
