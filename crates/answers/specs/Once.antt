@@ -1,5 +1,5 @@
 -- Any two results that a promise allows for one input are equal: the answer, and all lent memory.
--- One theorem for each public call; a promise is what the call's contract in src/ states. OnceInC has the calls for C.
+-- One theorem for each public call; a promise is the record that the call's contract in src/ cites, or the one equation there of a refusal's number or place. OnceInC has the calls for C.
 use Prim.Native.Nat.{ℕ}
 use mathlib.Core.Path.{_≡_, sym, _∙_}
 use mathlib.Core.Bool.{Bool}
