@@ -1,5 +1,5 @@
 -- Any two results that a promise allows for one input are equal: the answer, and all lent memory.
--- One theorem for each public call; a promise is what the call's contract in src/ states. OnceInC has the calls for C.
+-- One theorem for each public call; a promise is the record that the call's contract in src/ cites, or the one equation there of a refusal's number or place. OnceInC has the calls for C.
 use Prim.Native.Nat.{ℕ}
 use mathlib.Core.Path.{_≡_, sym, _∙_}
 use mathlib.Core.Bool.{Bool}
@@ -7,15 +7,14 @@ use mathlib.Core.List.{List}
 use Rattle.number.specs.declared.Refusal.{Refusal}
 use Rattle.number.specs.declared.Taken.{Taken}
 use Rattle.number.specs.Refused.{number, place}
-use Rattle.number.specs.Numbers.{taken, readNumber, field}
+use Rattle.number.specs.Promises.{ReadsNumber, ReadsField}
 use Rattle.meaning.specs.Re.{Text}
 use Rattle.book.specs.declared.Checked.{Checked}
 use Rattle.book.specs.declared.RuleKind.{RuleKind}
-use Rattle.book.specs.Calls.{checked, kindTold, checkOf, kindOf}
+use Rattle.book.specs.Promises.{Checks, TellsKind}
 use Rattle.table.specs.declared.Counted.{Counted}
 use Rattle.table.specs.declared.Written.{Written}
-use Rattle.table.specs.Table.{wellFormed}
-use Rattle.table.specs.Promises.{Loads, WritesSheet}
+use Rattle.table.specs.Promises.{Tests, Loads, WritesSheet}
 use Rattle.cutting.specs.declared.Word.{Word}
 use Rattle.cutting.specs.declared.Ended.{Ended}
 use Rattle.cutting.specs.Promises.{CutsInto, CutsWords}
@@ -31,20 +30,20 @@ one-refusal-number r x y p q = p ∙ sym q
 pub one-refusal-place : (r : Refusal) (x y : ℕ) → x ≡ place r → y ≡ place r → x ≡ y
 one-refusal-place r x y p q = p ∙ sym q
 
-pub one-number : (s : List ℕ) (at : ℕ) (x y : Taken) → taken x ≡ readNumber s at → taken y ≡ readNumber s at → x ≡ y
-one-number s at x y p q = taken-one x y (p ∙ sym q)
+pub one-number : (s : List ℕ) (at : ℕ) (x y : Taken) → ReadsNumber s at x → ReadsNumber s at y → x ≡ y
+one-number s at x y p q = taken-one x y (p .answer ∙ sym (q .answer))
 
-pub one-field : (s : List ℕ) (at lo hi : ℕ) (x y : Taken) → taken x ≡ field s lo hi at → taken y ≡ field s lo hi at → x ≡ y
-one-field s at lo hi x y p q = taken-one x y (p ∙ sym q)
+pub one-field : (s : List ℕ) (lo hi at : ℕ) (x y : Taken) → ReadsField s lo hi at x → ReadsField s lo hi at y → x ≡ y
+one-field s lo hi at x y p q = taken-one x y (p .answer ∙ sym (q .answer))
 
-pub one-check : (file : List ℕ) (x y : Checked) → checked x ≡ checkOf file → checked y ≡ checkOf file → x ≡ y
-one-check file x y p q = checked-one x y (p ∙ sym q)
+pub one-check : (file : List ℕ) (x y : Checked) → Checks file x → Checks file y → x ≡ y
+one-check file x y p q = checked-one x y (p .answer ∙ sym (q .answer))
 
-pub one-kind : (file : List ℕ) (i : ℕ) (x y : RuleKind) → kindTold x ≡ kindOf file i → kindTold y ≡ kindOf file i → x ≡ y
-one-kind file i x y p q = told-one x y (p ∙ sym q)
+pub one-kind : (file : List ℕ) (i : ℕ) (x y : RuleKind) → TellsKind file i x → TellsKind file i y → x ≡ y
+one-kind file i x y p q = told-one x y (p .answer ∙ sym (q .answer))
 
-pub one-test : (s : ℕ) (l t : List ℕ) (x y : Bool) → x ≡ wellFormed s l t → y ≡ wellFormed s l t → x ≡ y
-one-test s l t x y p q = p ∙ sym q
+pub one-test : (s : ℕ) (l t : List ℕ) (x y : Bool) → Tests s l t x → Tests s l t y → x ≡ y
+one-test s l t x y p q = p .answer ∙ sym (q .answer)
 
 pub one-load : (file l t l₁ t₁ l₂ t₂ : List ℕ) (x y : Counted) → Loads file l t l₁ t₁ x → Loads file l t l₂ t₂ y
     → (x ≡ y) × (l₁ ≡ l₂) × (t₁ ≡ t₂)

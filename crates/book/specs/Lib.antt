@@ -1,4 +1,4 @@
--- Rule books. Definitions, in reading order: Book, Reads, Valid, Expression, Places, Calls, Sample, Seven, Refusals, Asked, Postfix, Answers; the other files prove things of these.
+-- Rule books. Definitions, in reading order: Book, Reads, Valid, Expression, Places, Calls, Promises, Sample, Seven, Refusals, Asked, Postfix, Answers; the other files prove things of these.
 -- Main gathers the theorems that are bought.
 pub mod Book
 pub mod Reads
@@ -6,6 +6,7 @@ pub mod Valid
 pub mod Expression
 pub mod Places
 pub mod Calls
+pub mod Promises
 pub mod Sample
 pub mod Seven
 pub mod Refusals

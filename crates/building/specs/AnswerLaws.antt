@@ -12,7 +12,7 @@ use Rattle.number.specs.declared.Refusal.{Refusal}
 use Rattle.number.specs.declared.Refusal.the-variants.{Room, Long}
 use Rattle.number.specs.Limits.{bytes, states, tableCells}
 use Rattle.number.specs.Lists.{written}
-use Rattle.number.specs.Refused.{Outcome}
+use Rattle.number.specs.Refused.{Outcome, rowOf}
 use Rattle.number.specs.Refused.Outcome.{gives, refuses}
 use Rattle.book.specs.declared.Checked.{Checked}
 use Rattle.book.specs.declared.Checked.the-variants.{Counts, Refused as NotChecked}
@@ -128,6 +128,7 @@ module _ (file l t s : List ℕ) where
   room-labels h =
       record {
         answer = simp (lt-ltb _ _ h);
+        row = simp (lt-ltb _ _ h);
         labels = simp (lt-ltb _ _ h);
         targets = simp (lt-ltb _ _ h);
         work = simp (lt-ltb _ _ h);
@@ -137,6 +138,7 @@ module _ (file l t s : List ℕ) where
   room-targets h k =
       record {
         answer = simp (le-ltb _ _ h, lt-ltb _ _ k);
+        row = simp (le-ltb _ _ h, lt-ltb _ _ k);
         labels = simp (le-ltb _ _ h, lt-ltb _ _ k);
         targets = simp (le-ltb _ _ h, lt-ltb _ _ k);
         work = simp (le-ltb _ _ h, lt-ltb _ _ k);
@@ -146,6 +148,7 @@ module _ (file l t s : List ℕ) where
   room-work h k m =
       record {
         answer = simp (le-ltb _ _ h, le-ltb _ _ k, lt-ltb _ _ m);
+        row = simp (le-ltb _ _ h, le-ltb _ _ k, lt-ltb _ _ m);
         labels = simp (le-ltb _ _ h, le-ltb _ _ k, lt-ltb _ _ m);
         targets = simp (le-ltb _ _ h, le-ltb _ _ k, lt-ltb _ _ m);
         work = simp (le-ltb _ _ h, le-ltb _ _ k, lt-ltb _ _ m);
@@ -164,6 +167,7 @@ module _ (file l t s : List ℕ) where
           let why : buildBook file ≡ refuses z = rw y at (x .comes) in
           record {
             answer = rw (build-is, why);
+            row = rw (build-is, why);
             labels = cleared-all l₁ l₂ (length l) p f ∙ rw (build-is, why);
             targets = cleared-all t₁ t₂ (length t) q g ∙ rw (build-is, why);
             work = e ∙ rw build-is;
@@ -177,6 +181,7 @@ module _ (file l t s : List ℕ) where
           ap (λ (b : Building). b .table) build-is ∙ ap (filledBy l t) (a .built) in
           record {
             answer = ap gives (sym (a .many)) ∙ sym (ap (λ (b : Filled). b .answer) is);
+            row = sym (ap (λ (b : Filled). rowOf (b .answer)) is);
             labels =
                 padded-front l₁ l₂ (a .table .labels) (length l) count p (omega (arith, a .few)) (a .labels) f
                 ∙ sym (ap (λ (b : Filled). b .labels) is);

@@ -9,7 +9,7 @@ ghost use Rattle.number.specs.Reading.{mapAnswer};
 ghost use Rattle.book.specs.Book.{total};
 ghost use Rattle.book.specs.Reads.{readNodes, readRules};
 ghost use Rattle.book.specs.Answers.{nodeRefusal};
-ghost use Rattle.book.specs.Calls.{checked, checkOf};
+ghost use Rattle.book.specs.Promises.{Checks};
 use book::Checked;
 use book::NodeRead;
 use book::read_node;
@@ -25,7 +25,7 @@ use number::read_field;
 
 // How many rules the book has and how many nodes in all, or why it is refused.
 pub fn check_book(book: &[u8]) -> Checked
-    ensures { λ r. ⌜ checked r ≡ checkOf (now (book .entry)) ⌝ }
+    ensures { λ r. ⌜ Checks (now (book .entry)) r ⌝ }
 {
     let version = read_field(book, 0, VERSION, VERSION);
     let Taken::Value(v, at_rules) = version else {

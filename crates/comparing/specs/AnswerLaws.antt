@@ -11,7 +11,7 @@ use lib.ListN.{length, take, drop, replicate, length-replicate, drop-of-length-l
 use Rattle.number.specs.declared.Refusal.{Refusal}
 use Rattle.number.specs.declared.Refusal.the-variants.{Room, Loaded}
 use Rattle.number.specs.Limits.{bytes, shownText, workCells}
-use Rattle.number.specs.Refused.{Outcome}
+use Rattle.number.specs.Refused.{Outcome, rowOf}
 use Rattle.number.specs.Refused.Outcome.{gives, refuses}
 use Rattle.number.specs.Lists.{written}
 use Rattle.book.specs.Reads.{readBook}
@@ -152,11 +152,17 @@ answered-work area work (refuses r) = refl
 
 module _ (file : List ℕ) (m : ℕ) (labels targets area work : List ℕ) where
   pub compare-small-area : length area < shownText → Compares file m labels targets area work area work (Refused Room)
-  compare-small-area h = record { answer = simp (lt-ltb _ _ h); text = simp (lt-ltb _ _ h); work-after = simp (lt-ltb _ _ h) }
+  compare-small-area h = record {
+    answer = simp (lt-ltb _ _ h);
+    row = simp (lt-ltb _ _ h);
+    text = simp (lt-ltb _ _ h);
+    work-after = simp (lt-ltb _ _ h);
+  }
 
   pub compare-small-work : shownText ≤ length area → length work < workLength → Compares file m labels targets area work area work (Refused Room)
   compare-small-work h k = record {
     answer = simp (le-ltb _ _ h, lt-ltb _ _ k);
+    row = simp (le-ltb _ _ h, lt-ltb _ _ k);
     text = simp (le-ltb _ _ h, lt-ltb _ _ k);
     work-after = simp (le-ltb _ _ h, lt-ltb _ _ k);
   }
@@ -175,8 +181,10 @@ module _ (file : List ℕ) (m : ℕ) (labels targets area work : List ℕ) where
         → length work₁ ≡ length work → work₂ ≡ replicate (length work₁) 0 → Compares file m labels targets area work area₂ work₂ r
     compare-done area₁ area₂ work₁ work₂ r e a f g =
         let o = loadedOf file m labels targets in
+        let told = a .answer ∙ answered-answer area area₁ work o ∙ ap (λ (c : Comparison). c .answer) (sym as-answered) in
         record {
-          answer = a .answer ∙ answered-answer area area₁ work o ∙ ap (λ (c : Comparison). c .answer) (sym as-answered);
+          answer = told;
+          row = ap rowOf told;
           text = a .text ∙ answered-text area area₁ work e o ∙ ap (λ (c : Comparison). c .text) (sym as-answered);
           work-after = g ∙ ap (λ (l : ℕ). replicate l 0) f ∙ sym (answered-work area work o) ∙ ap (λ (c : Comparison). c .work) (sym as-answered);
         }

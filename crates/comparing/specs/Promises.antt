@@ -1,5 +1,5 @@
 -- What the code of comparing asks and tells, from a book's rules to the public call: one record a contract, fields by name.
--- What is answered stands in Calls of verdict.
+-- What is answered stands in Calls of verdict; the public call tells a refusal by the paper's number and place too (`rowOf`).
 use Prim.Native.Nat.{ℕ, _*_, _≤_}
 use mathlib.Core.Path.{_≡_}
 use mathlib.Core.Bool.{cond}
@@ -7,7 +7,7 @@ use mathlib.Core.List.{List}
 use lib.ListN.{length}
 use Rattle.number.specs.declared.Refusal.the-variants.{Loaded}
 use Rattle.number.specs.Limits.{bytes}
-use Rattle.number.specs.Refused.{Outcome}
+use Rattle.number.specs.Refused.{Outcome, rowOf}
 use Rattle.number.specs.Refused.Outcome.{refuses}
 use Rattle.table.specs.Table.{Table, lent, wellFormed}
 use Rattle.start.specs.Start.{rulesIn, Opened}
@@ -36,5 +36,6 @@ loadedOf file count labels targets =
 -- compare_book: its answer, and both lent memories as they were and are
 pub record Compares (file : List ℕ) (count : ℕ) (labels targets area work area′ work′ : List ℕ) (r : Compared) : Type 0 where
   pub answer : compared r ≡ compareOf file count labels targets area work .answer
+  pub row : rowOf (compared r) ≡ rowOf (compareOf file count labels targets area work .answer)
   pub text : area′ ≡ compareOf file count labels targets area work .text
   pub work-after : work′ ≡ compareOf file count labels targets area work .work

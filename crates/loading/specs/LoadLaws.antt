@@ -47,6 +47,7 @@ module _ (file l t : List ℕ) where
   load-few-labels h =
       record {
         answer = simp (lt-ltb _ _ h);
+        row = simp (lt-ltb _ _ h);
         labels = simp (lt-ltb _ _ h);
         targets = simp (lt-ltb _ _ h);
       }
@@ -55,6 +56,7 @@ module _ (file l t : List ℕ) where
   load-few-targets h k =
       record {
         answer = simp (le-ltb _ _ h, lt-ltb _ _ k);
+        row = simp (le-ltb _ _ h, lt-ltb _ _ k);
         labels = simp (le-ltb _ _ h, lt-ltb _ _ k);
         targets = simp (le-ltb _ _ h, lt-ltb _ _ k);
       }
@@ -71,6 +73,7 @@ module _ (file l t : List ℕ) where
     load-refused l1 t1 {l2} {t2} e m f n g =
         record {
           answer = rw (load-is, e);
+          row = rw (load-is, e);
           labels = cleared-whole l1 l2 (length l) (sym m) f ∙ rw (load-is, e);
           targets = cleared-whole t1 t2 (length t) (sym n) g ∙ rw (load-is, e);
         }
@@ -85,6 +88,7 @@ module _ (file l t : List ℕ) where
         let targeted = padded-whole t t2 (s .table .targets) (length t) (count * bytes) refl (s .targeted) (omega arith) (rw (s .targets) at g) in
         record {
           answer = rw (load-is, s .is, s .counted);
+          row = rw (load-is, s .is);
           labels = labelled ∙ rw (load-is, s .is);
           targets = targeted ∙ rw (load-is, s .is);
         }

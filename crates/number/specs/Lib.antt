@@ -1,4 +1,4 @@
--- Numbers in files. Definitions, in reading order: Limits, Refused, Rows, Numbers, Faults, Reading, Lists (what writing does to memory: `written`, `Writes`), Sample; and Quoted, for lists of printed lines above.
+-- Numbers in files. Definitions, in reading order: Limits, Refused, Rows, Numbers, Faults, Reading, Lists (what writing does to memory: `written`, `Writes`), Promises, Sample; and Quoted, for lists of printed lines above.
 -- The other files, and what else Lists claims, are proved; Main gathers the theorems that are bought.
 pub mod Limits
 pub mod Refused
@@ -7,6 +7,7 @@ pub mod Numbers
 pub mod Faults
 pub mod Reading
 pub mod Lists
+pub mod Promises
 pub mod Branch
 pub mod RowLaws
 pub mod NumberLaws

@@ -5,9 +5,10 @@ ghost use Prim.Native.Nat.{ℕ, _+_, _<_, _≤_};
 ghost use lib.ListN.{length};
 ghost use Rattle.number.specs.Limits.{threeGroups};
 ghost use Rattle.number.specs.Refused.{number, place};
-ghost use Rattle.number.specs.Numbers.{readNumber, several, field, taken, writeNumber};
+ghost use Rattle.number.specs.Numbers.{several, taken, writeNumber};
 ghost use Rattle.number.specs.Refused.Answer.{got};
 ghost use Rattle.number.specs.Lists.{written};
+ghost use Rattle.number.specs.Promises.{ReadsNumber, ReadsField};
 
 pub mod limits;
 
@@ -101,7 +102,7 @@ fn shortest(at: usize, last: usize, value: usize, next: usize) -> Taken
 
 // The number that starts at a place.
 pub fn read_number(bytes: &[u8], at: usize) -> Taken
-    ensures { λ r. ⌜ taken r ≡ readNumber (now (bytes .entry)) at ⌝ }
+    ensures { λ r. ⌜ ReadsNumber (now (bytes .entry)) at r ⌝ }
 {
     if bytes.len() <= at {
         return Taken::Refused(Refusal::Short(at));
@@ -134,7 +135,7 @@ pub fn read_number(bytes: &[u8], at: usize) -> Taken
 
 // The number at a place, if it lies within its field.
 pub fn read_field(bytes: &[u8], at: usize, lo: usize, hi: usize) -> Taken
-    ensures { λ r. ⌜ taken r ≡ field (now (bytes .entry)) lo hi at ⌝ }
+    ensures { λ r. ⌜ ReadsField (now (bytes .entry)) lo hi at r ⌝ }
 {
     let got = read_number(bytes, at);
     let Taken::Value(value, next) = got else {

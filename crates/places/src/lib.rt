@@ -2,7 +2,7 @@
 // Both calls check the book first, take any bytes and any number, and promise an answer for each.
 ghost use mathlib.Core.Path.{_≡_};
 ghost use Rattle.book.specs.Answers.{placeRead, readHead, findRule, findFrom, nowhere as noPlace, placeOf};
-ghost use Rattle.book.specs.Calls.{kindTold, kindOf};
+ghost use Rattle.book.specs.Promises.{TellsKind};
 use book::Checked;
 use book::PlaceRead;
 use book::RuleKind;
@@ -19,7 +19,7 @@ use number::read_field;
 
 // The kind of a rule. Past the check the rule is found; a refusal would still be told with its place.
 pub fn rule_kind(book: &[u8], rule: usize) -> RuleKind
-    ensures { λ r. ⌜ kindTold r ≡ kindOf (now (book .entry)) rule ⌝ }
+    ensures { λ r. ⌜ TellsKind (now (book .entry)) rule r ⌝ }
 {
     let counted = check_book(book);
     match counted {

@@ -8,7 +8,7 @@ use lib.ListN.{length}
 use borrow.Author.Tests.{lt-ltb, le-ltb}
 use Rattle.number.specs.declared.Refusal.the-variants.{Input}
 use Rattle.number.specs.Limits.{rulesFile, typedArea}
-use Rattle.number.specs.Refused.{Outcome}
+use Rattle.number.specs.Refused.{Outcome, rowOf}
 use Rattle.number.specs.Refused.Outcome.{gives, refuses}
 use Rattle.table.specs.declared.Written.{Written}
 use Rattle.table.specs.declared.Written.the-variants.{Unwritten}
@@ -22,7 +22,12 @@ pub too-long : (text out : List ℕ) → rulesFile < length text → MakesBook t
 unfolding rulesBytes
 too-long text out h =
     let z = lt-ltb rulesFile (length text) h in
-    record { answer = rw z refl; output = rw z refl; inside = λ n e. absurd (let y : _≡_ {A = ℕ} 0 1 = cc in omega arith) }
+    record {
+      answer = rw z refl;
+      row = rw z refl;
+      output = rw z refl;
+      inside = λ n e. absurd (let y : _≡_ {A = ℕ} 0 1 = cc in omega arith);
+    }
 
 -- what is given is a book's length
 short-book : (out : List ℕ) (n : ℕ) (x : Outcome (List ℕ)) → ((bytes : List ℕ) → x ≡ gives bytes → length bytes < typedArea)
@@ -43,6 +48,7 @@ module _ (text out : List ℕ) (r : Written) (out′ : List ℕ) (room : typedAr
       let z = le-ltb rulesFile (length text) fits in
       record {
         answer = rw z answer-typed;
+        row = rw z (ap rowOf answer-typed);
         output = rw z output-typed;
         inside = λ n e. short-book out n (bookBytes text) (λ bytes h. the-length text bytes h .1) (sym (ap wrote e) ∙ answer-typed);
       }

@@ -5,7 +5,8 @@ ghost use Prim.Native.Nat.{ℕ, _-_, _≤_};
 ghost use lib.Dec.{ltb};
 ghost use lib.ListN.{length, take, replicate};
 ghost use Rattle.number.specs.Lists.{written};
-ghost use Rattle.table.specs.Table.{all, wellFormed};
+ghost use Rattle.table.specs.Table.{all};
+ghost use Rattle.table.specs.Promises.{Tests};
 use number::Refusal;
 use number::limits::BYTES;
 use number::limits::RULES;
@@ -57,7 +58,7 @@ fn all_below(cells: &[u8], end: usize, limit: usize) -> bool
 // Lent memory holds a table of `count` states.
 // The count is tested before it is multiplied, so that no product can wrap.
 pub fn well_formed(count: usize, labels: &[u8], targets: &[u8]) -> bool
-    ensures { λ r. ⌜ r ≡ wellFormed count (now (labels .entry)) (now (targets .entry)) ⌝ }
+    ensures { λ r. ⌜ Tests count (now (labels .entry)) (now (targets .entry)) r ⌝ }
 {
     if count < 1 {
         return false;

@@ -13,7 +13,7 @@ use borrow.Author.Tests.{lt-ltb, le-ltb, eq-eqb, ne-eqb}
 use Rattle.number.specs.declared.Refusal.{Refusal}
 use Rattle.number.specs.declared.Refusal.the-variants.{Range, Room, Typed}
 use Rattle.number.specs.Limits.{version, rules, kinds, nodes, typedArea}
-use Rattle.number.specs.Refused.{Outcome}
+use Rattle.number.specs.Refused.{Outcome, rowOf}
 use Rattle.number.specs.Refused.Outcome.{gives, refuses}
 use Rattle.number.specs.Lists.{Writes, written, writes-none, writes-then, take-written, stored-one, drop-one}
 use Rattle.number.specs.Numbers.{writeNumber}
@@ -310,10 +310,12 @@ rules-as {text} {book} e h = subst (RulesReads text book) e h
 
 -- the call: too small an area is refused, and else it is as above
 pub types-room : (text out : List ℕ) → length out < typedArea → Types text out (Unwritten Room) out
-types-room text out h = let z = lt-ltb (length out) typedArea h in record { answer = rw z refl; output = rw z refl }
+types-room text out h = let z = lt-ltb (length out) typedArea h in record { answer = rw z refl; row = rw z refl; output = rw z refl }
 
 pub types-given : (text out : List ℕ) (r : Written) (out′ : List ℕ) → typedArea ≤ length out → Given text out r out′ → Types text out r out′
-types-given text out r out′ h a = let z = le-ltb (length out) typedArea h in record { answer = rw z (a .answer); output = rw z (a .output) }
+types-given text out r out′ h a =
+    let z = le-ltb (length out) typedArea h in
+    record { answer = rw z (a .answer); row = rw z (ap rowOf (a .answer)); output = rw z (a .output) }
 
 given-refused : (text out : List ℕ) (r : Refusal) → bookBytes text ≡ refuses r → Given text out (Unwritten r) out
 given-refused text out r e = record { answer = sym (ap (λ (x : Outcome (List ℕ)). putBook out x .answer) e); output = sym (ap (λ (x : Outcome (List ℕ)). putBook out x .out) e) }

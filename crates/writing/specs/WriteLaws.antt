@@ -24,6 +24,7 @@ module _ (s : ℕ) (l t o : List ℕ) where
   write-unloaded e =
       record {
         answer = simp (← e);
+        row = simp (← e);
         out = simp (← e);
       }
 
@@ -32,6 +33,7 @@ module _ (s : ℕ) (l t o : List ℕ) where
     write-cramped h =
         record {
           answer = simp (← well, lt-ltb _ _ h);
+          row = simp (← well, lt-ltb _ _ h);
           out = simp (← well, lt-ltb _ _ h);
         }
 
@@ -40,5 +42,6 @@ module _ (s : ℕ) (l t o : List ℕ) where
     write-done h w =
         record {
           answer = simp (← well, le-ltb _ _ h, w .place, zero-add);
+          row = simp (← well, le-ltb _ _ h);
           out = simp (← well, le-ltb _ _ h) (w .out ∙ written-front o (writeSheet (lent s l t)));
         }

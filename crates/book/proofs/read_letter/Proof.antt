@@ -21,12 +21,12 @@ refusal-of-requires c κs = search needs
 
 returns : tie.Need-returns
 returns c =
-    let letter = refusal-given (c .before .before .before .read-field .ensures) (c .before .enum-told .given .1) (c .refusal-of .ensures) in
+    let letter = refusal-given (c .before .before .before .read-field .ensures .answer) (c .before .enum-told .given .1) (c .refusal-of .ensures) in
     sym (letter-refused _ _ _ letter)
 
 returns-2 : tie.Need-returns-2
 returns-2 c =
-    let letter = value-told (c .before .before .before .read-field .ensures) (c .before .letter .given .1) in
+    let letter = value-told (c .before .before .before .read-field .ensures .answer) (c .before .letter .given .1) in
     sym (letter-got _ _ _ _ letter)
 
 pub read-letter-spec : {M : Type 1} → statement M

@@ -24,7 +24,7 @@ refusal-of-requires c κs = search needs
 
 returns : tie.Need-returns
 returns c =
-    let code = refusal-given (c .before .before .before .read-field .ensures) (c .before .enum-told .given .1) (c .refusal-of .ensures) in
+    let code = refusal-given (c .before .before .before .read-field .ensures .answer) (c .before .enum-told .given .1) (c .refusal-of .ensures) in
     sym (node-refused _ _ _ _ _ (c .before .before .before .before .last-code .ensures) code)
 
 read-after-requires : tie.Need-read-after-requires
@@ -32,7 +32,7 @@ read-after-requires c κs = search needs
 
 returns-2 : tie.Need-returns-2
 returns-2 c =
-    let code = value-told (c .before .before .before .before .read-field .ensures) (c .before .before .code .given .1) in
+    let code = value-told (c .before .before .before .before .read-field .ensures .answer) (c .before .before .code .given .1) in
     c .read-after .ensures ∙ sym (node-got _ _ _ _ _ _ (c .before .before .before .before .before .last-code .ensures) code)
 
 pub read-node-spec : {M : Type 1} → statement M

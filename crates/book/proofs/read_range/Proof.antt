@@ -14,7 +14,7 @@ use Rattle.book.proofs.read_range.Tie as tie
 lo-read : (c : tie.After-known-told)
     → field (c .before .before .before .before .before .args .book .now) 0 lastByte (c .before .before .before .before .before .args .at)
     ≡ got (c .before .first .given .0 .0) (c .before .first .given .0 .1 .0)
-lo-read c = value-told (c .before .before .before .read-field .ensures) (c .before .first .given .1)
+lo-read c = value-told (c .before .before .before .read-field .ensures .answer) (c .before .first .given .1)
 
 read-field-requires : tie.Need-read-field-requires
 read-field-requires c κs = search needs
@@ -30,7 +30,7 @@ refusal-of-requires c κs = search needs
 
 returns : tie.Need-returns
 returns c =
-    let lo = refusal-given (c .before .before .before .read-field .ensures) (c .before .enum-told .given .1) (c .refusal-of .ensures) in
+    let lo = refusal-given (c .before .before .before .read-field .ensures .answer) (c .before .enum-told .given .1) (c .refusal-of .ensures) in
     sym (range-lo-refused _ _ _ lo)
 
 read-field-requires-2 : tie.Need-read-field-requires-2
@@ -47,12 +47,12 @@ refusal-of-requires-2 c κs = search needs
 
 returns-2 : tie.Need-returns-2
 returns-2 c =
-    let hi = refusal-given (c .before .before .before .read-field2 .ensures) (c .before .enum-told2 .given .1) (c .refusal-of2 .ensures) in
+    let hi = refusal-given (c .before .before .before .read-field2 .ensures .answer) (c .before .enum-told2 .given .1) (c .refusal-of2 .ensures) in
     sym (range-hi-refused _ _ _ _ _ (lo-read (c .before .before .before .before)) hi)
 
 returns-3 : tie.Need-returns-3
 returns-3 c =
-    let hi = value-told (c .before .before .before .read-field2 .ensures) (c .before .second .given .1) in
+    let hi = value-told (c .before .before .before .read-field2 .ensures .answer) (c .before .second .given .1) in
     sym (range-got _ _ _ _ _ _ (lo-read (c .before .before .before .before)) hi)
 
 pub read-range-spec : {M : Type 1} → statement M

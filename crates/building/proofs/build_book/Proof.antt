@@ -15,10 +15,10 @@ enum-known-checked-2 : tie.Need-enum-known-checked-2
 enum-known-checked-2 c = search needs
 
 build-rules-requires : tie.Need-build-rules-requires
-build-rules-requires c κs = (book-opened _ (c .before .before .before .before .before .before .check-book .ensures) (c .before .before .before .before .checked2 .given .1) (c .before .before .before .before .before .before .before .before .before .before .before .pre), c .before .before .before .before .before .before .before .before .before .before .before .pre)
+build-rules-requires c κs = (book-opened _ (c .before .before .before .before .before .before .check-book .ensures .answer) (c .before .before .before .before .checked2 .given .1) (c .before .before .before .before .before .before .before .before .before .before .before .pre), c .before .before .before .before .before .before .before .before .before .before .before .pre)
 
 returns : tie.Need-returns
-returns c = book-refused _ (c .before .before .before .check-book .ensures) (c .before .checked .given .1)
+returns c = book-refused _ (c .before .before .before .check-book .ensures .answer) (c .before .checked .given .1)
 
 same-length : tie.Need-same-length
 same-length c = search needs
@@ -31,7 +31,7 @@ same-length-3 c = search needs
 
 returns-2 : tie.Need-returns-2
 returns-2 c =
-    tabled-as _ (c .before .before .before .before .before .before .build-rules .ensures) (book-table _ (c .before .before .before .before .before .before .before .before .before .before .before .before .before .check-book .ensures) (c .before .before .before .before .before .before .before .before .before .before .before .checked2 .given .1))
+    tabled-as _ (c .before .before .before .before .before .before .build-rules .ensures) (book-table _ (c .before .before .before .before .before .before .before .before .before .before .before .before .before .check-book .ensures .answer) (c .before .before .before .before .before .before .before .before .before .before .before .checked2 .given .1))
 
 pub build-book-spec : {M : Type 1} → statement M
 build-book-spec =

@@ -65,9 +65,9 @@ module _ (t : ℕ) where
   head-read c =
       record {
         kind-read =
-            value-told (c .before .before .before .before .before .before .before .read-field .ensures)
+            value-told (c .before .before .before .before .before .before .before .read-field .ensures .answer)
             (c .before .before .before .before .before .kind .given .1);
-        count-read = value-told (c .before .before .before .read-field2 .ensures) (c .before .count .given .1);
+        count-read = value-told (c .before .before .before .read-field2 .ensures .answer) (c .before .count .given .1);
       }
 
   count-fits : (c : check-rules-lts.After-known-told2 (K t) (check-rules-at t) check-rules.Post) → c .before .count .given .0 .0 ≤ nodes
@@ -94,17 +94,17 @@ module _ (t : ℕ) where
   returns-2 c =
       let told = ap taken (c .enum-told .given .1) in
       let left = c .before .before .before .before .before .args .left in
-      told ∙ sym (rules-kind-refused _ _ left (left - 1) _ _ _ (omega arith) (sym (c .before .before .read-field .ensures) ∙ told))
+      told ∙ sym (rules-kind-refused _ _ left (left - 1) _ _ _ (omega arith) (sym (c .before .before .read-field .ensures .answer) ∙ told))
 
   returns-3 : check-rules-lts.Need-returns-3 (K t) (check-rules-at t) check-rules.Post
   returns-3 c =
       let told = ap taken (c .enum-told2 .given .1) in
       let left = c .before .before .before .before .before .before .before .before .before .args .left in
       let kind =
-      value-told (c .before .before .before .before .before .before .read-field .ensures)
+      value-told (c .before .before .before .before .before .before .read-field .ensures .answer)
       (c .before .before .before .before .kind .given .1) in
       told ∙ sym (rules-count-refused _ _ left (left - 1) _ _ _ _ _ (omega arith) kind
-      (sym (c .before .before .read-field2 .ensures) ∙ told))
+      (sym (c .before .before .read-field2 .ensures .answer) ∙ told))
 
   add-if2 : check-rules-lts.Need-add-if2 (K t) (check-rules-at t) check-rules.Post
   add-if2 c = omega (arith, count-fits c)

@@ -5,6 +5,7 @@ use Rattle.number.specs.Limits.{version, lastVersion}
 use Rattle.number.specs.Numbers.{field}
 use Rattle.number.specs.Refused.Answer.{got}
 use Rattle.book.specs.Calls.{sizeOf}
+use Rattle.book.specs.Promises.{checks}
 use Rattle.book.specs.AnswerLaws.{value-told, refusal-given}
 use Rattle.book.specs.CodeLaws.{summed, BookHead, book-version-refused, book-count-refused, book-rules-refused}
 use Rattle.book.specs.CodeLaws.{book-tail, book-counts}
@@ -26,7 +27,7 @@ start-of c = version-of c .before .before .before .before .before
 version-read : (c : tie.After-known-told)
     → field (c .before .before .before .before .before .args .book .now) version lastVersion 0
     ≡ got (c .before .version .given .0 .0) (c .before .version .given .0 .1 .0)
-version-read c = value-told (c .before .before .before .read-field .ensures) (c .before .version .given .1)
+version-read c = value-told (c .before .before .before .read-field .ensures .answer) (c .before .version .given .1)
 
 head-read : (c : tie.After-known-told2)
     → BookHead (start-of c .args .book .now) (version-of c .before .version .given .0 .0) (version-of c .before .version .given .0 .1 .0)
@@ -34,7 +35,7 @@ head-read : (c : tie.After-known-told2)
 head-read c =
     record {
       version-read = version-read (version-of c);
-      count-read = value-told (c .before .before .before .read-field2 .ensures) (c .before .rules .given .1);
+      count-read = value-told (c .before .before .before .read-field2 .ensures .answer) (c .before .rules .given .1);
     }
 
 rules-read : (c : tie.After-known-told3)
@@ -58,8 +59,8 @@ refusal-of-requires c κs = search needs
 returns : tie.Need-returns
 returns c =
     let told =
-    refusal-given (c .before .before .before .read-field .ensures) (c .before .enum-told .given .1) (c .refusal-of .ensures) in
-    sym (ap sizeOf (book-version-refused _ _ told))
+    refusal-given (c .before .before .before .read-field .ensures .answer) (c .before .enum-told .given .1) (c .refusal-of .ensures) in
+    checks (sym (ap sizeOf (book-version-refused _ _ told)))
 
 read-field-requires-2 : tie.Need-read-field-requires-2
 read-field-requires-2 c κs = search needs
@@ -76,8 +77,8 @@ refusal-of-requires-2 c κs = search needs
 returns-2 : tie.Need-returns-2
 returns-2 c =
     let told =
-    refusal-given (c .before .before .before .read-field2 .ensures) (c .before .enum-told2 .given .1) (c .refusal-of2 .ensures) in
-    sym (ap sizeOf (book-count-refused _ _ _ _ (version-read (c .before .before .before .before)) told))
+    refusal-given (c .before .before .before .read-field2 .ensures .answer) (c .before .enum-told2 .given .1) (c .refusal-of2 .ensures) in
+    checks (sym (ap sizeOf (book-count-refused _ _ _ _ (version-read (c .before .before .before .before)) told)))
 
 check-rules-requires : tie.Need-check-rules-requires
 check-rules-requires c κs = search needs
@@ -95,13 +96,13 @@ returns-3 : tie.Need-returns-3
 returns-3 c =
     let told =
     refusal-given (c .before .before .before .check-rules .ensures) (c .before .enum-told3 .given .1) (c .refusal-of3 .ensures) in
-    sym (ap sizeOf (book-rules-refused _ _ _ _ _ _ (head-read (c .before .before .before .before)) told))
+    checks (sym (ap sizeOf (book-rules-refused _ _ _ _ _ _ (head-read (c .before .before .before .before)) told)))
 
 returns-4 : tie.Need-returns-4
-returns-4 c = sym (ap sizeOf (book-tail _ _ _ _ _ _ _ (head-read (head-of (c .before))) (rules-read (c .before)) (c .if1 .taken)))
+returns-4 c = checks (sym (ap sizeOf (book-tail _ _ _ _ _ _ _ (head-read (head-of (c .before))) (rules-read (c .before)) (c .if1 .taken))))
 
 returns-5 : tie.Need-returns-5
-returns-5 c = sym (book-counts _ _ _ _ _ _ _ (head-read (head-of (c .before))) (rules-read (c .before)) (c .if1 .left))
+returns-5 c = checks (sym (book-counts _ _ _ _ _ _ _ (head-read (head-of (c .before))) (rules-read (c .before)) (c .if1 .left)))
 
 pub check-book-spec : {M : Type 1} → statement M
 check-book-spec =

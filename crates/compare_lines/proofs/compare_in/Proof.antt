@@ -53,7 +53,7 @@ returns : tie.Need-returns
 returns c =
     let a = c .before .before .before .before .before .before .before .before .before .before .before .before .before .before .before .args in
     let put = c .before .before .put-refused in (
-      writes-as (files-no-book (a .book .now) (a .sheet .now) _ (sym (c .before .before .before .before .before .before .before .check-book .ensures) ∙ ap checked (c .before .before .before .before .before .r .given .1))) (put .ensures .0),
+      writes-as (files-no-book (a .book .now) (a .sheet .now) _ (sym (c .before .before .before .before .before .before .before .check-book .ensures .answer) ∙ ap checked (c .before .before .before .before .before .r .given .1))) (put .ensures .0),
       omega (arith, c .before .before .before .before .before .before .before .before .before .before .before .before .before .before .before .pre .1 .1 .1 .1, put .ensures .1, put .kept .1 .0),
     )
 
@@ -72,7 +72,7 @@ returns-2 c =
     let p = c .before .before .before .before .before .before .before .before .before .before .before .before .before .before .before .before .before .before .before .before .before .before .before .before .pre in
     let put = c .before .before .put-refused2 in
     let refusal = load-refused (a .sheet .now) (a .labels .now) (a .targets .now) (p .0) (p .1 .0) _ _ _ _ (c .before .before .before .before .before .r2 .given .1) (c .before .before .before .before .before .before .before .before .before .before .before .load .ensures) in (
-      writes-as (files-no-sheet (a .book .now) (a .sheet .now) _ _ (sym (c .before .before .before .before .before .before .before .before .before .before .before .before .before .before .before .before .check-book .ensures) ∙ ap checked (c .before .before .before .before .before .before .before .before .before .before .before .before .before .before .enum-told .given .1)) _ refusal) (put .ensures .0),
+      writes-as (files-no-sheet (a .book .now) (a .sheet .now) _ _ (sym (c .before .before .before .before .before .before .before .before .before .before .before .before .before .before .before .before .check-book .ensures .answer) ∙ ap checked (c .before .before .before .before .before .before .before .before .before .before .before .before .before .before .enum-told .given .1)) _ refusal) (put .ensures .0),
       omega (arith, p .1 .1 .1 .1, put .ensures .1, put .kept .1 .0),
     )
 
@@ -99,7 +99,7 @@ returns-3 c =
     let call = c .before .before .before .before .before .before .before .before .before .compare-book in
     let held = compare-holds (a .book .now) _ _ _ _ _ _ _ _ (read .table) (read .stood) (omega (arith, p .1 .1 .0)) (p .1 .1 .1 .0) (omega (arith, call .kept .1 .1 .1 .1 .0)) (call .ensures) in
     let put = c .before .before .put-answer in (
-      writes-as (held .lines ∙ files-both (a .book .now) (a .sheet .now) _ _ (sym (c .before .before .before .before .before .before .before .before .before .before .before .before .before .before .before .before .before .before .before .before .before .before .before .before .before .before .check-book .ensures) ∙ ap checked (c .before .before .before .before .before .before .before .before .before .before .before .before .before .before .before .before .before .before .before .before .before .before .before .before .enum-told .given .1)) (read .table) (read .after) (read .read)) (put .ensures .0),
+      writes-as (held .lines ∙ files-both (a .book .now) (a .sheet .now) _ _ (sym (c .before .before .before .before .before .before .before .before .before .before .before .before .before .before .before .before .before .before .before .before .before .before .before .before .before .before .check-book .ensures .answer) ∙ ap checked (c .before .before .before .before .before .before .before .before .before .before .before .before .before .before .before .before .before .before .before .before .before .before .before .before .enum-told .given .1)) (read .table) (read .after) (read .read)) (put .ensures .0),
       put .ensures .1,
     )
 

@@ -16,7 +16,7 @@ use Rattle.comparing.proofs.compare_loaded.Tie as tie
 
 -- past the first test the table is well formed
 well : (c : tie.Else1) → (let a = c .before .before .before .before .before .before .before .args in true ≡ wellFormed (a .count) (a .labels .now) (a .targets .now))
-well c = sym (not-false (c .before .well-formed .result) (c .if1 .left)) ∙ c .before .well-formed .ensures
+well c = sym (not-false (c .before .well-formed .result) (c .if1 .left)) ∙ c .before .well-formed .ensures .answer
 
 fitting : (c : tie.Else1) → (let a = c .before .before .before .before .before .before .before .args in Fitting (a .count) (a .labels .now) (a .targets .now))
 fitting c = well-fits _ _ _ (well c)
@@ -25,7 +25,7 @@ fitting c = well-fits _ _ _ (well c)
 counts : (c : tie.After-checked2)
     → (let w = c .checked2 .given .0 in
     sizeOf (readBook (c .before .before .before .before .before .before .before .before .before .before .args .book .now)) ≡ gives (record { rules = w .0; nodes = w .1 .0 }))
-counts c = sym (c .before .before .check-book .ensures) ∙ ap checked (c .checked2 .given .1)
+counts c = sym (c .before .before .check-book .ensures .answer) ∙ ap checked (c .checked2 .given .1)
 
 well-formed-requires : tie.Need-well-formed-requires
 well-formed-requires c κs = search needs
@@ -33,7 +33,7 @@ well-formed-requires c κs = search needs
 returns : tie.Need-returns
 returns c =
     let asked = c .before .well-formed in
-    loaded-ill _ _ _ _ _ (c .before .before .before .before .before .before .before .pre .0) (sym (not-true (asked .result) (c .if1 .taken)) ∙ asked .ensures)
+    loaded-ill _ _ _ _ _ (c .before .before .before .before .before .before .before .pre .0) (sym (not-true (asked .result) (c .if1 .taken)) ∙ asked .ensures .answer)
 
 check-book-requires : tie.Need-check-book-requires
 check-book-requires c κs = search needs
@@ -75,7 +75,7 @@ returns-2 : tie.Need-returns-2
 returns-2 c =
     let called = c .before .before .before in
     let p = called .before .before .before .before .before .before .before .before .pre in
-    loaded-refused _ _ _ _ _ (p .0) (well (called .before)) _ (sym (called .check-book .ensures) ∙ ap checked (c .before .checked .given .1))
+    loaded-refused _ _ _ _ _ (p .0) (well (called .before)) _ (sym (called .check-book .ensures .answer) ∙ ap checked (c .before .checked .given .1))
 
 same-length : tie.Need-same-length
 same-length c = search needs

@@ -47,6 +47,7 @@ use denote.Triple.Clauses.{ensured, lasts}
 use denote.Triple.Table.{entered, cited}
 use denote.Triple.Walked.{says, Stays, stay-slice, stay-none, stay-none-slice, walkOf, goes-slice, goes-none, goes-none-slice, Walks, ends-at, walked, walk-meets}
 use denote.Exit.{yes}
+use Rattle.number.specs.Refused.{rowOf}
 use Rattle.table.specs.Table.{lent}
 use Rattle.cutting.specs.declared.Word.{Word}
 use Rattle.cutting.specs.declared.Place.{Place}
@@ -238,7 +239,7 @@ module _ {M : Type 1} (𝓤 : URA M) (H : Heap 𝓤) (A : Atoms 𝓤) (W : Given
       suffices ! _
       (ends-at 𝓤 H A this.ended stayed (this.clauses 𝓤 H A mem run) W (((κ, (κ′, tt)), (q, (q′, tt)), tt, args, values), tt)
       (answer-laws.lowered (h .decided .end)) (h .decided .end) (tt, (tt, (tt, (tt, (h .words, tt))))) (tt, (tt, (tt, (tt, (h .sized, tt)))))) $
-      says ! (record { answer = ap (λ (x : Recorded). x .answer) e; records = ap (λ (x : Recorded). x .records) e }) $
+      says ! (record { answer = ap (λ (x : Recorded). x .answer) e; row = ap (λ (x : Recorded). rowOf (x .answer)) e; records = ap (λ (x : Recorded). x .records) e }) $
       nothing ! $ move ! (2 ∷ 0 ∷ []) $ join ! $ move ! (3 ∷ 0 ∷ []) $ join ! $ frame ! $
       move ! (1 ∷ []) $ split ! $ move ! (1 ∷ []) $ split ! $ nothing ! $
       move ! (4 ∷ 0 ∷ []) $ fjoin ! $ move ! (2 ∷ 0 ∷ []) $ fjoin ! $ move ! (1 ∷ 0 ∷ []) $ fjoin ! $ move ! (1 ∷ 0 ∷ []) $ fjoin ! $

@@ -5,6 +5,7 @@ use native.Mathlib.Omega.{arith}
 use mathlib.Core.Path.{_≡_, refl, ap}
 use borrow.Author.Needs.{needs}
 use lib.ListN.{length, length-set}
+use Rattle.number.specs.Refused.{rowOf}
 use Rattle.cutting.specs.Flat.{recordCells, Laid, cutCellsOf}
 use Rattle.cutting.specs.TurnLaws.{Stands, stands-first, stands-next}
 use Rattle.cutting.specs.LayLaws.{overCells, layCells, cells-none, cells-put, cells-whole}
@@ -85,7 +86,7 @@ same-length c = c .before .loop .inv .0
 returns : tie.Need-returns Inv-loop μ-loop
 returns c =
     let e = c .before .loop .inv .1 .stopped (c .loop-test .left) in
-    record { answer = ap (λ (x : Laid). x .answer) e; cells = ap (λ (x : Laid). x .cells) e }
+    record { answer = ap (λ (x : Laid). x .answer) e; row = ap (λ (x : Laid). rowOf (x .answer)) e; cells = ap (λ (x : Laid). x .cells) e }
 
 pub cut-from-spec : {M : Type 1} → statement M
 cut-from-spec =

@@ -13,7 +13,7 @@ tell-size-requires : tie.Need-tell-size-requires
 tell-size-requires c κs = search needs
 
 returns : tie.Need-returns
-returns c = c .tell-size .ensures ∙ ap (packed toldSize) (c .before .before .check-book .ensures)
+returns c = c .tell-size .ensures ∙ ap (packed toldSize) (c .before .before .check-book .ensures .answer)
 
 pub lubi-check-book-spec : {M : Type 1} → statement M
 lubi-check-book-spec = tie.close (tie.spec check-book-requires tell-size-requires returns)

@@ -13,7 +13,7 @@ tell-kind-requires : tie.Need-tell-kind-requires
 tell-kind-requires c κs = search needs
 
 returns : tie.Need-returns
-returns c = c .tell-kind .ensures ∙ ap (packed toldKind) (c .before .before .rule-kind .ensures)
+returns c = c .tell-kind .ensures ∙ ap (packed toldKind) (c .before .before .rule-kind .ensures .answer)
 
 pub lubi-rule-kind-spec : {M : Type 1} → statement M
 lubi-rule-kind-spec = tie.close (tie.spec rule-kind-requires tell-kind-requires returns)

@@ -13,13 +13,13 @@ give-requires : tie.Need-give-requires
 give-requires c κs = search needs
 
 returns : tie.Need-returns
-returns c = c .give .ensures ∙ ap (λ b. packed toldCount (tested b)) (sym (c .before .before .if1 .taken) ∙ c .before .before .before .well-formed .ensures)
+returns c = c .give .ensures ∙ ap (λ b. packed toldCount (tested b)) (sym (c .before .before .if1 .taken) ∙ c .before .before .before .well-formed .ensures .answer)
 
 refuse-requires : tie.Need-refuse-requires
 refuse-requires c κs = search needs
 
 returns-2 : tie.Need-returns-2
-returns-2 c = c .refuse .ensures ∙ ap (λ b. packed toldCount (tested b)) (sym (c .before .before .if1 .left) ∙ c .before .before .before .well-formed .ensures)
+returns-2 c = c .refuse .ensures ∙ ap (λ b. packed toldCount (tested b)) (sym (c .before .before .if1 .left) ∙ c .before .before .before .well-formed .ensures .answer)
 
 pub lubi-well-formed-spec : {M : Type 1} → statement M
 lubi-well-formed-spec =

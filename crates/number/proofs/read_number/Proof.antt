@@ -2,6 +2,7 @@
 -- Assumes nothing.
 use native.Mathlib.Omega.{arith}
 use mathlib.Core.Path.{_∙_}
+use Rattle.number.specs.Promises.{reads-number}
 use Rattle.number.specs.NumberLaws.{way-read}
 use Rattle.number.specs.NumberLaws.Way.{none, one, half, two, most, three, over}
 use borrow.Author.Needs.{needs}
@@ -9,7 +10,7 @@ use Rattle.number.proofs.read_number.Statement.{statement}
 use Rattle.number.proofs.read_number.Tie as tie
 
 returns : tie.Need-returns
-returns c = way-read _ _ (none (c .if1 .taken))
+returns c = reads-number (way-read _ _ (none (c .if1 .taken)))
 
 shared-slice-read-wide : tie.Need-shared-slice-read-wide
 shared-slice-read-wide c = search needs
@@ -21,13 +22,13 @@ add-t11 : tie.Need-add-t11
 add-t11 c = search needs
 
 returns-2 : tie.Need-returns-2
-returns-2 c = way-read _ _ (one _ (omega arith) (c .before .wide .ensures) (c .if2 .taken))
+returns-2 c = reads-number (way-read _ _ (one _ (omega arith) (c .before .wide .ensures) (c .if2 .taken)))
 
 sub-if3 : tie.Need-sub-if3
 sub-if3 c = search needs
 
 returns-3 : tie.Need-returns-3
-returns-3 c = way-read _ _ (half _ (omega arith) (c .before .before .wide .ensures) (omega arith) (omega arith))
+returns-3 c = reads-number (way-read _ _ (half _ (omega arith) (c .before .before .wide .ensures) (omega arith) (omega arith)))
 
 add-wide : tie.Need-add-wide
 add-wide c = search needs
@@ -54,7 +55,7 @@ returns-4 : tie.Need-returns-4
 returns-4 c =
     let a = c .before .before .before .before .before .before .wide .ensures in
     let b = c .before .before .wide2 .ensures in
-    c .shortest .ensures ∙ way-read _ _ (two _ _ (omega arith) a b (omega arith) (omega arith))
+    reads-number (c .shortest .ensures ∙ way-read _ _ (two _ _ (omega arith) a b (omega arith) (omega arith)))
 
 sub-if5 : tie.Need-sub-if5
 sub-if5 c = search needs
@@ -63,7 +64,7 @@ returns-5 : tie.Need-returns-5
 returns-5 c =
     let a = c .before .before .before .before .before .before .wide .ensures in
     let b = c .before .before .wide2 .ensures in
-    way-read _ _ (most _ _ (omega arith) a b (omega arith) (omega arith) (omega arith))
+    reads-number (way-read _ _ (most _ _ (omega arith) a b (omega arith) (omega arith) (omega arith)))
 
 add-wide-2 : tie.Need-add-wide-2
 add-wide-2 c = search needs
@@ -97,14 +98,14 @@ returns-6 c =
     let a = c .before .before .before .before .before .before .before .before .before .before .wide .ensures in
     let b = c .before .before .before .before .before .before .wide2 .ensures in
     let last = c .before .before .wide3 .ensures in
-    c .shortest2 .ensures ∙ way-read _ _ (three _ _ _ (omega arith) a b last (omega arith) (omega arith) (omega arith))
+    reads-number (c .shortest2 .ensures ∙ way-read _ _ (three _ _ _ (omega arith) a b last (omega arith) (omega arith) (omega arith)))
 
 returns-7 : tie.Need-returns-7
 returns-7 c =
     let a = c .before .before .before .before .before .before .before .before .before .wide .ensures in
     let b = c .before .before .before .before .before .wide2 .ensures in
     let last = c .before .wide3 .ensures in
-    way-read _ _ (over _ _ _ (omega arith) a b last (omega arith) (omega arith) (c .if6 .left))
+    reads-number (way-read _ _ (over _ _ _ (omega arith) a b last (omega arith) (omega arith) (c .if6 .left)))
 
 pub read-number-spec : {M : Type 1} → statement M
 read-number-spec =

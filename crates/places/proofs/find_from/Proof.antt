@@ -22,7 +22,7 @@ start-of c = version-of c .before .before .before .before .before
 version-read : (c : tie.After-known-told)
     → field (c .before .before .before .before .before .args .book .now) version lastVersion 0
     ≡ got (c .before .version .given .0 .0) (c .before .version .given .0 .1 .0)
-version-read c = value-told (c .before .before .before .read-field .ensures) (c .before .version .given .1)
+version-read c = value-told (c .before .before .before .read-field .ensures .answer) (c .before .version .given .1)
 
 head-read : (c : tie.After-known-told2)
     → BookHead (start-of c .args .book .now) (version-of c .before .version .given .0 .0) (version-of c .before .version .given .0 .1 .0)
@@ -30,7 +30,7 @@ head-read : (c : tie.After-known-told2)
 head-read c =
     record {
       version-read = version-read (version-of c);
-      count-read = value-told (c .before .before .before .read-field2 .ensures) (c .before .rules .given .1);
+      count-read = value-told (c .before .before .before .read-field2 .ensures .answer) (c .before .rules .given .1);
     }
 
 read-field-requires : tie.Need-read-field-requires
@@ -48,7 +48,7 @@ refusal-of-requires c κs = search needs
 returns : tie.Need-returns
 returns c =
     let found =
-    refusal-given (c .before .before .before .read-field .ensures) (c .before .enum-told .given .1) (c .refusal-of .ensures) in
+    refusal-given (c .before .before .before .read-field .ensures .answer) (c .before .enum-told .given .1) (c .refusal-of .ensures) in
     sym (from-version-refused _ _ _ found)
 
 read-field-requires-2 : tie.Need-read-field-requires-2
@@ -66,7 +66,7 @@ refusal-of-requires-2 c κs = search needs
 returns-2 : tie.Need-returns-2
 returns-2 c =
     let found =
-    refusal-given (c .before .before .before .read-field2 .ensures) (c .before .enum-told2 .given .1) (c .refusal-of2 .ensures) in
+    refusal-given (c .before .before .before .read-field2 .ensures .answer) (c .before .enum-told2 .given .1) (c .refusal-of2 .ensures) in
     sym (from-count-refused _ _ _ _ _ (version-read (c .before .before .before .before)) found)
 
 find-rule-requires : tie.Need-find-rule-requires

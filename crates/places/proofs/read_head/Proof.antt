@@ -14,7 +14,7 @@ use Rattle.places.proofs.read_head.Tie as tie
 kind-read : (c : tie.After-known-told)
     → field (c .before .before .before .before .before .args .book .now) 0 kinds (c .before .before .before .before .before .args .at)
     ≡ got (c .before .kind .given .0 .0) (c .before .kind .given .0 .1 .0)
-kind-read c = value-told (c .before .before .before .read-field .ensures) (c .before .kind .given .1)
+kind-read c = value-told (c .before .before .before .read-field .ensures .answer) (c .before .kind .given .1)
 
 read-field-requires : tie.Need-read-field-requires
 read-field-requires c κs = search needs
@@ -30,7 +30,7 @@ refusal-of-requires c κs = search needs
 
 returns : tie.Need-returns
 returns c =
-    let kind = refusal-given (c .before .before .before .read-field .ensures) (c .before .enum-told .given .1) (c .refusal-of .ensures) in
+    let kind = refusal-given (c .before .before .before .read-field .ensures .answer) (c .before .enum-told .given .1) (c .refusal-of .ensures) in
     sym (head-kind-refused _ _ _ kind)
 
 read-field-requires-2 : tie.Need-read-field-requires-2
@@ -48,12 +48,12 @@ refusal-of-requires-2 c κs = search needs
 returns-2 : tie.Need-returns-2
 returns-2 c =
     let count =
-    refusal-given (c .before .before .before .read-field2 .ensures) (c .before .enum-told2 .given .1) (c .refusal-of2 .ensures) in
+    refusal-given (c .before .before .before .read-field2 .ensures .answer) (c .before .enum-told2 .given .1) (c .refusal-of2 .ensures) in
     sym (head-count-refused _ _ _ _ _ (kind-read (c .before .before .before .before)) count)
 
 returns-3 : tie.Need-returns-3
 returns-3 c =
-    let count = value-told (c .before .before .before .read-field2 .ensures) (c .before .count .given .1) in
+    let count = value-told (c .before .before .before .read-field2 .ensures .answer) (c .before .count .given .1) in
     sym (head-got _ _ _ _ _ _ (record { kind-read = kind-read (c .before .before .before .before); count-read = count }))
 
 pub read-head-spec : {M : Type 1} → statement M

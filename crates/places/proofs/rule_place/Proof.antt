@@ -15,7 +15,7 @@ use Rattle.places.proofs.rule_place.Tie as tie
 size-told : (c : tie.After-known-told)
     → checkOf (c .before .before .before .before .before .args .book .now)
     ≡ gives (record { rules = c .before .counted .given .0 .0; nodes = c .before .counted .given .0 .1 .0 })
-size-told c = counts-told (c .before .before .before .check-book .ensures) (c .before .counted .given .1)
+size-told c = counts-told (c .before .before .before .check-book .ensures .answer) (c .before .counted .given .1)
 
 bytes : (c : tie.After-known-told) → Bytes (c .before .before .before .before .before .args .book .now)
 bytes c = λ i h. omega (arith, c .before .before .before .before .shared-slice-known .given i)
@@ -35,7 +35,7 @@ nowhere-requires c κs = search needs
 returns : tie.Need-returns
 returns c =
     c .nowhere .ensures
-    ∙ sym (place-refused _ _ _ (check-refusal-told (c .before .before .before .check-book .ensures) (c .before .enum-told .given .1)))
+    ∙ sym (place-refused _ _ _ (check-refusal-told (c .before .before .before .check-book .ensures .answer) (c .before .enum-told .given .1)))
 
 nowhere-requires-2 : tie.Need-nowhere-requires-2
 nowhere-requires-2 c κs = search needs

@@ -41,13 +41,13 @@ module _ (t : ℕ) where
   length-got : (c : read-runs-lts.After-length (K t) (read-runs-at t) read-runs.Post)
       → (let a = c .before .before .before .before .before .before .args in
       field (a .sheet .now) 1 bytes (a .at) ≡ got (c .length .given .0 .0) (c .length .given .0 .1 .0))
-  length-got c = sym (c .before .before .read-field .ensures) ∙ ap taken (c .length .given .1)
+  length-got c = sym (c .before .before .read-field .ensures .answer) ∙ ap taken (c .length .given .1)
 
   target-got : (c : read-runs-lts.After-leads (K t) (read-runs-at t) read-runs.Post)
       → (let run = c .before .before .before .before .before in
       let a = run .before .before .before .before .before .before .args in
       field (a .sheet .now) 0 (a .s - 1) (run .length .given .0 .1 .0) ≡ got (c .leads .given .0 .0) (c .leads .given .0 .1 .0))
-  target-got c = sym (c .before .before .read-field2 .ensures) ∙ ap taken (c .leads .given .1)
+  target-got c = sym (c .before .before .read-field2 .ensures .answer) ∙ ap taken (c .leads .given .1)
 
   returns : read-runs-lts.Need-returns (K t) (read-runs-at t) read-runs.Post
   returns c = row-stopped _ (runs-low _ _ _ _ _ _ (c .before .if1 .taken) (c .if2 .taken)) refl
@@ -59,7 +59,7 @@ module _ (t : ℕ) where
   returns-3 c =
       let told = ap taken (c .enum-told .given .1) in
       let k = c .before .before .before .before .before .before .args .k in
-      let refused-at = sym (c .before .before .read-field .ensures) ∙ told in
+      let refused-at = sym (c .before .before .read-field .ensures .answer) ∙ told in
       row-stopped _ (runs-no-length _ _ _ _ _ _ (k - 1) (omega arith) refused-at) told
 
   add-covered : read-runs-lts.Need-add-covered (K t) (read-runs-at t) read-runs.Post
@@ -78,7 +78,7 @@ module _ (t : ℕ) where
       let told = ap taken (c .enum-told2 .given .1) in
       let k = c .before .before .before .before .before .before .before .before .before .before .before .args .k in
       let run = c .before .before .before .before .before in
-      let refused-at = sym (c .before .before .read-field2 .ensures) ∙ told in
+      let refused-at = sym (c .before .before .read-field2 .ensures .answer) ∙ told in
       row-stopped _ (runs-no-target _ _ _ _ _ _ (k - 1) (omega arith) (length-got run) (c .before .before .before .if3 .left) refused-at) told
 
   returns-6 : read-runs-lts.Need-returns-6 (K t) (read-runs-at t) read-runs.Post

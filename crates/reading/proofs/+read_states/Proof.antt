@@ -44,13 +44,13 @@ module _ (t : ℕ) where
   label-got : (c : read-states-lts.After-named (K t) (read-states-at t) read-states.Post)
       → (let a = c .before .before .before .before .before .before .before .args in
       field (a .sheet .now) 0 rules (a .at) ≡ got (c .named .given .0 .0) (c .named .given .0 .1 .0))
-  label-got c = sym (c .before .before .read-field .ensures) ∙ ap taken (c .named .given .1)
+  label-got c = sym (c .before .before .read-field .ensures .answer) ∙ ap taken (c .named .given .1)
 
   count-got : (c : read-states-lts.After-count (K t) (read-states-at t) read-states.Post)
       → (let label = c .before .before .before .before in
       let a = label .before .before .before .before .before .before .before .args in
       field (a .sheet .now) 1 bytes (label .named .given .0 .1 .0) ≡ got (c .count .given .0 .0) (c .count .given .0 .1 .0))
-  count-got c = sym (c .before .before .read-field2 .ensures) ∙ ap taken (c .count .given .1)
+  count-got c = sym (c .before .before .read-field2 .ensures .answer) ∙ ap taken (c .count .given .1)
 
   runs-got : (c : read-states-lts.After-row (K t) (read-states-at t) read-states.Post)
       → (let counted = c .before .before .before .before .before .before .before in
@@ -67,13 +67,13 @@ module _ (t : ℕ) where
   returns-2 c =
       let told = ap taken (c .enum-told .given .1) in
       let k = c .before .before .before .before .before .before .before .args .k in
-      rows-stopped _ (states-no-label _ _ _ _ (k - 1) (omega arith) (sym (c .before .before .read-field .ensures) ∙ told)) told
+      rows-stopped _ (states-no-label _ _ _ _ (k - 1) (omega arith) (sym (c .before .before .read-field .ensures .answer) ∙ told)) told
 
   returns-3 : read-states-lts.Need-returns-3 (K t) (read-states-at t) read-states.Post
   returns-3 c =
       let told = ap taken (c .enum-told2 .given .1) in
       let k = c .before .before .before .before .before .before .before .before .before .before .before .args .k in
-      let refused-at = sym (c .before .before .read-field2 .ensures) ∙ told in
+      let refused-at = sym (c .before .before .read-field2 .ensures .answer) ∙ told in
       rows-stopped _ (states-no-count _ _ _ _ (k - 1) (omega arith) (label-got (c .before .before .before .before)) refused-at) told
 
   cast-labels : read-states-lts.Need-cast-labels (K t) (read-states-at t) read-states.Post

@@ -18,13 +18,13 @@ use Rattle.reading.proofs.read_sheet.Tie as tie
 version-got : (c : tie.After-version)
     → (let a = c .before .before .before .before .before .before .args in
     field (a .sheet .now) version version 0 ≡ got (c .version .given .0 .0) (c .version .given .0 .1 .0))
-version-got c = sym (c .before .before .read-field .ensures) ∙ ap taken (c .version .given .1)
+version-got c = sym (c .before .before .read-field .ensures .answer) ∙ ap taken (c .version .given .1)
 
 count-got : (c : tie.After-count)
     → (let first = c .before .before .before .before in
     let a = first .before .before .before .before .before .before .args in
     field (a .sheet .now) 1 states (first .version .given .0 .1 .0) ≡ got (c .count .given .0 .0) (c .count .given .0 .1 .0))
-count-got c = sym (c .before .before .read-field2 .ensures) ∙ ap taken (c .count .given .1)
+count-got c = sym (c .before .before .read-field2 .ensures .answer) ∙ ap taken (c .count .given .1)
 
 states-got : (c : tie.After-rows)
     → (let counted = c .before .before .before .before .before .before .before .before .before .before in
@@ -45,7 +45,7 @@ enum-told c = search needs
 returns : tie.Need-returns
 returns c =
     let told = ap taken (c .enum-told .given .1) in
-    table-stopped _ (sheet-no-version _ states (sym (c .before .before .read-field .ensures) ∙ told)) told
+    table-stopped _ (sheet-no-version _ states (sym (c .before .before .read-field .ensures .answer) ∙ told)) told
 
 read-field-requires-2 : tie.Need-read-field-requires-2
 read-field-requires-2 c κs = search needs
@@ -59,7 +59,7 @@ enum-told-2 c = search needs
 returns-2 : tie.Need-returns-2
 returns-2 c =
     let told = ap taken (c .enum-told2 .given .1) in
-    table-stopped _ (sheet-no-count _ states (version-got (c .before .before .before .before)) (sym (c .before .before .read-field2 .ensures) ∙ told)) told
+    table-stopped _ (sheet-no-count _ states (version-got (c .before .before .before .before)) (sym (c .before .before .read-field2 .ensures .answer) ∙ told)) told
 
 read-states-requires : tie.Need-read-states-requires
 read-states-requires c κs =

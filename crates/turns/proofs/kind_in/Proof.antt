@@ -25,13 +25,13 @@ enum-told-2 : tie.Need-enum-told-2
 enum-told-2 c = search needs
 
 returns : tie.Need-returns
-returns c = tell (c .before .before .before .rule-kind .ensures) (c .before .kind .given .1)
+returns c = tell (c .before .before .before .rule-kind .ensures .answer) (c .before .kind .given .1)
 
 returns-2 : tie.Need-returns-2
-returns-2 c = tell (c .before .before .rule-kind .ensures) (c .enum-told .given .1)
+returns-2 c = tell (c .before .before .rule-kind .ensures .answer) (c .enum-told .given .1)
 
 returns-3 : tie.Need-returns-3
-returns-3 c = tell (c .before .before .rule-kind .ensures) (c .enum-told2 .given .1)
+returns-3 c = tell (c .before .before .rule-kind .ensures .answer) (c .enum-told2 .given .1)
 
 pub kind-in-spec : {M : Type 1} → statement M
 kind-in-spec =

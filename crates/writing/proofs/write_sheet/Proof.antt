@@ -22,7 +22,7 @@ use Rattle.writing.proofs.write_sheet.Tie as tie
 well : (c : tie.Else1)
     → (let a = c .before .before .before .before .before .args in
     true ≡ wellFormed (a .count) (a .labels .now) (a .targets .now))
-well c = sym (not-false (c .before .well-formed .result) (c .if1 .left)) ∙ c .before .well-formed .ensures
+well c = sym (not-false (c .before .well-formed .result) (c .if1 .left)) ∙ c .before .well-formed .ensures .answer
 
 fitting : (c : tie.Else1)
     → (let a = c .before .before .before .before .before .args in
@@ -57,7 +57,7 @@ well-formed-requires c κs = search needs
 
 returns : tie.Need-returns
 returns c =
-    let ill = sym (not-true (c .before .well-formed .result) (c .if1 .taken)) ∙ c .before .well-formed .ensures in
+    let ill = sym (not-true (c .before .well-formed .result) (c .if1 .taken)) ∙ c .before .well-formed .ensures .answer in
     write-unloaded _ _ _ _ ill
 
 sheet-length-requires : tie.Need-sheet-length-requires
