@@ -31,7 +31,7 @@ use Rattle.verdict.specs.Called.{Roomy, Short, Refuses, Answered, OneTex
 use Rattle.verdict.specs.PairLaws.{number-one}
 use Rattle.verdict.specs.VerdictLaws.{book-cut, same-alike, same-exactly, shown-differs, limits-at, wider-answered, wider-long, own-table}
 use Rattle.verdict.specs.CallLaws.{text-one, short-room, ill-formed, book-refused, call-answered, own-call}
-use Rattle.verdict.specs.Sample.{answers, stated, refusals, rows, worked-answers, worked-refusals}
+use Rattle.verdict.specs.Sample.{answersOfW, statedOfW, worked-w, answers, stated, refusals, rows, worked-answers, worked-refusals}
 
 -- a text has exactly one cut by a book's rules, as it has by a table (cutting, the-cut)
 pub the-book-cut : (rs : List Re) (room at : ℕ) (text : Text) (x : Cut) → Cuts (FirstWord rs) room at text x ↔ (cutBy (firstWord rs) room at text ≡ x)
@@ -113,10 +113,13 @@ the-answers = refl
 
 -- ---- computed by the checker
 
--- answers, document 01's two comparisons of W first
+-- document 01's two comparisons of W: against its own table, and against that table with state 5 merged into state 4
+pub the-worked-sheets : answersOfW ≡ statedOfW
+the-worked-sheets = worked-w
+
+-- other answers, and refusals by row and place
 pub the-worked-answers : answers ≡ stated
 the-worked-answers = worked-answers
 
--- refusals by row and place
 pub the-worked-refusals : refusals ≡ rows
 the-worked-refusals = worked-refusals

@@ -4,8 +4,9 @@ use Prim.Native.Nat.{ℕ}
 use mathlib.Core.Path.{_≡_, refl}
 use mathlib.Core.Bool.{cond}
 use mathlib.Core.List.{List, [], _∷_, _++_, map}
+use native.Mathlib.Omega.{arith}
 use lib.Dec.{eqb}
-use lib.ListN.{drop, replicate}
+use lib.ListN.{replicate}
 use Rattle.number.specs.Limits.{pairs, pool}
 use Rattle.number.specs.Refused.{Outcome, Row, rowOf}
 use Rattle.number.specs.Refused.Outcome.{gives, refuses}
@@ -25,6 +26,7 @@ use Rattle.table.specs.Table.{Table}
 use Rattle.built.specs.Build.{buildRules}
 use Rattle.verdict.specs.Compare.{Verdict, firstDiffering, compareRulesTo, compareRules}
 use Rattle.verdict.specs.Compare.Verdict.{Same, Differs}
+use Rattle.verdict.specs.OwnSheet.{own-same}
 
 -- ---- tables
 
@@ -40,20 +42,24 @@ against change rs (gives t) = compareRules (change t) rs
 abbrev own : (Table → Table) → List Re → Outcome Verdict
 own change rs = against change rs (buildRules rs)
 
+abbrev countOf : Outcome Table → ℕ
+countOf (gives t) = t .count
+countOf (refuses r) = 0
+
 abbrev unchanged : Table → Table
 unchanged t = t
 
--- with another label at the start
-abbrev labelled : ℕ → Table → Table
-labelled l t = record { count = t .count; labels = l ∷ drop 1 (t .labels); targets = t .targets }
+-- with other labels
+abbrev labelled : List ℕ → Table → Table
+labelled ls t = record { count = t .count; labels = ls; targets = t .targets }
 
 -- with state m merged into state n: whatever led to m leads to n
 abbrev merged : ℕ → ℕ → Table → Table
 merged m n t = record { count = t .count; labels = t .labels; targets = map (λ q. cond (eqb q m) n q) (t .targets) }
 
--- `a` alone leads to state 1, all else to state 2; our build numbers the two states the other way round
-abbrev forA : ℕ → ℕ → Table
-forA l m = record { count = 3; labels = 0 ∷ l ∷ m ∷ []; targets = replicate 97 2 ++ (1 ∷ replicate 670 2) }
+-- two states that every byte exchanges, both labelled 1
+abbrev exchanged : Table
+exchanged = record { count = 2; labels = 1 ∷ 1 ∷ []; targets = replicate 256 1 ++ replicate 256 0 }
 
 -- ---- rules
 
@@ -65,6 +71,10 @@ b = Range 98 98
 
 abbrev c : Re
 c = Range 99 99
+
+-- every text
+abbrev every : Re
+every = Star (Range 0 255)
 
 -- c sixteen times, from doubled halves: 31 nodes
 abbrev twice : Re → Re
@@ -86,39 +96,46 @@ abc = Cat a (Cat b c)
 
 -- ---- answers
 
--- document 01's two comparisons of W; and with its start labelled, to which no text leads back, so that this label does not matter
+-- document 01's two comparisons of W
 abbrev pub answersOfW : List (Outcome Verdict)
-answersOfW = own unchanged W ∷ own (merged 5 4) W ∷ own (labelled 4) W ∷ []
+answersOfW = own unchanged W ∷ own (merged 5 4) W ∷ []
 
 abbrev pub statedOfW : List (Outcome Verdict)
-statedOfW = gives Same ∷ gives (Differs (116 ∷ 111 ∷ []) 1 2) ∷ gives Same ∷ []
+statedOfW = gives Same ∷ gives (Differs (116 ∷ 111 ∷ []) 1 2) ∷ []
+
+-- W builds, and a table that is built is found the same
+states-w : countOf (buildRules W) ≡ 7
+unfolding buildRules walkFrom walkRows walkRow step come numberIn withVector withParts withTerm holds sameVector derived normalised labelFrom derivFit normalFit deriv nullable normal star alt nested sorted placed kept gathered cat chain order size
+states-w = refl
 
 own-w : own unchanged W ≡ gives Same
-unfolding compareRules firstDiffering buildRules walkFrom walkRows walkRow step come numberIn withVector withParts withTerm holds sameVector derived normalised labelFrom derivFit normalFit deriv nullable normal star alt nested sorted placed kept gathered cat chain order size
-own-w = refl
+own-w = go (buildRules W) refl states-w
+  where
+    go : (o : Outcome Table) → buildRules W ≡ o → countOf o ≡ 7 → against unchanged W o ≡ gives Same
+    go (gives t) e l = own-same W t e
+    go (refuses r) e l = absurd (omega arith)
 
 merged-w : own (merged 5 4) W ≡ gives (Differs (116 ∷ 111 ∷ []) 1 2)
 unfolding compareRules firstDiffering buildRules walkFrom walkRows walkRow step come numberIn withVector withParts withTerm holds sameVector derived normalised labelFrom derivFit normalFit deriv nullable normal star alt nested sorted placed kept gathered cat chain order size
 merged-w = refl
 
-labelled-w : own (labelled 4) W ≡ gives Same
-unfolding compareRules firstDiffering buildRules walkFrom walkRows walkRow step come numberIn withVector withParts withTerm holds sameVector derived normalised labelFrom derivFit normalFit deriv nullable normal star alt nested sorted placed kept gathered cat chain order size
-labelled-w = refl
-
 pub worked-w : answersOfW ≡ statedOfW
-worked-w = λ i. own-w i ∷ merged-w i ∷ labelled-w i ∷ []
+worked-w = λ i. own-w i ∷ merged-w i ∷ []
 
+-- other rules
 abbrev pub answers : List (Outcome Verdict)
 answers =
-    -- `ab` leads back to the start of (ab)*, and `a` to that of a*, so that its label matters
-    own (labelled 0) (Star (Cat a b) ∷ []) ∷
-    own (labelled 0) (Star a ∷ []) ∷
+    -- no text leads back to the start of a rule `a`, so its label does not matter; `ab` leads back to that of (ab)*, and `a` to that of a*
+    own (labelled (1 ∷ 0 ∷ 1 ∷ [])) (a ∷ []) ∷
+    own (labelled (0 ∷ 0 ∷ 0 ∷ [])) (Star (Cat a b) ∷ []) ∷
+    own (labelled (0 ∷ 0 ∷ [])) (Star a ∷ []) ∷
     -- a rule that the empty text alone matches
     compareRules (flat 0) (Empty ∷ []) ∷
-    -- states numbered otherwise; a label above the rules; one that no rule has, at a state that the lowest byte reaches
-    compareRules (forA 1 0) (a ∷ []) ∷
-    compareRules (forA 2 0) (a ∷ []) ∷
-    compareRules (forA 1 32) (a ∷ []) ∷
+    -- other states and targets than our build's are no difference
+    compareRules exchanged (every ∷ []) ∷
+    -- a label above the rules is an ordinary one, and differs
+    compareRules (flat 2) (every ∷ []) ∷
+    compareRules (flat 32) (Empty ∷ []) ∷
     -- the shorter text, though its byte is higher and its rule later; of two texts of one length, the lower
     compareRules (flat 0) (Cat a a ∷ b ∷ []) ∷
     compareRules (flat 0) (b ∷ a ∷ []) ∷
@@ -129,11 +146,12 @@ answers =
 
 abbrev pub stated : List (Outcome Verdict)
 stated =
+    gives Same ∷
     gives (Differs (97 ∷ 98 ∷ []) 1 0) ∷
     gives (Differs (97 ∷ []) 1 0) ∷
     gives Same ∷
     gives Same ∷
-    gives (Differs (97 ∷ []) 1 2) ∷
+    gives (Differs (0 ∷ []) 1 2) ∷
     gives (Differs (0 ∷ []) 0 32) ∷
     gives (Differs (98 ∷ []) 2 0) ∷
     gives (Differs (97 ∷ []) 2 0) ∷
