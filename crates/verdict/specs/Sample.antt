@@ -10,7 +10,7 @@ use lib.ListN.{replicate}
 use Rattle.number.specs.Limits.{pairs, pool}
 use Rattle.number.specs.Refused.{Outcome, Row, rowOf}
 use Rattle.number.specs.Refused.Outcome.{gives, refuses}
-use Rattle.number.specs.Refused.Row.{noRow, row}
+use Rattle.number.specs.Refused.Row.{row}
 use Rattle.meaning.specs.Sample.{W}
 use Rattle.meaning.specs.Re.{Re, size}
 use Rattle.meaning.specs.Re.Re.{Empty, Range, Cat, Alt, Star}
