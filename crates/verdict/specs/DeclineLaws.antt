@@ -34,11 +34,24 @@ use Rattle.walk.specs.Texts.Sooner.{shorter}
 use Rattle.walk.specs.Texts.NotLater.{equal, sooner}
 use Rattle.walk.specs.TextLaws.{length-snoc, snoc-some, snoc-front, snoc-last, sooner-not-later, not-later-sooner, not-later-trans, not-later-front, not-later-or}
 use Rattle.verdict.specs.Compare.{beside}
-use Rattle.verdict.specs.Demand.{PairNumber, LongAt, PairsTo, TermsTo, Unpassed, Passed, Leaving, Declined, WithinLimits}
+use Rattle.verdict.specs.Demand.{PairNumber, LongAt, PairsTo, TermsTo, Unpassed, Leaving, FirstPast, Crowded, WithinLimits}
 use Rattle.verdict.specs.Demand.LongAt.{rules, step}
-use Rattle.verdict.specs.Demand.Passed.{long as Passed·long, pairs-full as Passed·pairs, pool-full as Passed·pool}
 use Rattle.verdict.specs.Demand.Leaving.{nothing, pair}
 use Rattle.verdict.specs.PairLaws.{bytes-none, none-sooner, listed, listed-beyond, pairs-to, numbered, pairs-most, number-one}
+
+-- ---- what a refused comparison met, as one record: the first text at which a limit is passed, and that limit
+
+-- a limit is passed at a text, in the order of the tests
+pub data Passed (rs : List Re) (t : Table) (last : Text) (place : ℕ) : Refusal → Type 0 where
+  passed-long : LongAt rs last → Passed rs t last place (Long place)
+  passed-pairs : (LongAt rs last → ⊥) → PairsTo rs t last (suc pairs) → Passed rs t last place (Pairs place)
+  passed-pool : (LongAt rs last → ⊥) → ((n : ℕ) → PairsTo rs t last n → n ≤ pairs) → Crowded rs last → Passed rs t last place (Pool place)
+
+pub record Declined (rs : List Re) (t : Table) (r : Refusal) : Type 0 where
+  pub last : Text
+  pub place : ℕ
+  pub first : FirstPast rs t last place
+  pub passed : Passed rs t last place r
 
 module _ (rs : List Re) (t : Table) where
   terms-most : (h : Held) → Pooled pool h → (last : Text) (terms : List Re) → TermsTo rs last terms
@@ -108,7 +121,12 @@ module _ (rs : List Re) (t : Table) where
         (fits-sooner (beside t) rs (x .i) (x .c) (x .h) (x .underway) (x .inside))
 
     met : {r : Refusal} → Passed rs t next place r → Declined rs t r
-    met p = record { last = next; is-text = next-bytes; before = left-unpassed; place = place; leaving = pair left (x .c) refl left-number; passed = p }
+    met p = record {
+      last = next;
+      place = place;
+      first = record { is-text = next-bytes; before = left-unpassed; leaving = pair left (x .c) refl left-number };
+      passed = p;
+    }
 
     module _ (z : Beyond x) where
       abbrev more : Held
@@ -156,7 +174,12 @@ module _ (rs : List Re) (t : Table) where
   }
 
   first-met : {r : Refusal} → Passed rs t [] 0 r → Declined rs t r
-  first-met p = record { last = []; is-text = bytes-none; before = first-unpassed; place = 0; leaving = nothing refl refl; passed = p }
+  first-met p = record {
+    last = [];
+    place = 0;
+    first = record { is-text = bytes-none; before = first-unpassed; leaving = nothing refl refl };
+    passed = p;
+  }
 
   first-short : normalised rs ≡ Terms (start rs) → LongAt rs [] → ⊥
   first-short e (rules f l) = no-terms (sym l ∙ e)
@@ -172,17 +195,17 @@ module _ (rs : List Re) (t : Table) where
       none l (sooner s) = none-sooner s
 
   pub declined : {r : Refusal} → Met (beside t) rs r → Declined rs t r
-  declined (start-long e) = first-met (Passed·long (rules refl e))
-  declined (start-over e l) = first-met (Passed·pool (first-short e) first-pairs (withVector [] (start rs)) first-terms l)
+  declined (start-long e) = first-met (passed-long (rules refl e))
+  declined (start-over e l) = first-met (passed-pool (first-short e) first-pairs (withVector [] (start rs), first-terms, l))
   declined (long place x e) =
-      met x (Passed·long (step (left x) (x .c) (left-led x .text-is) (x .byte) refl (ap (derived (x .c)) (sym (left-led x .vector-is)) ∙ e)))
+      met x (passed-long (step (left x) (x .c) (left-led x .text-is) (x .byte) refl (ap (derived (x .c)) (sym (left-led x .vector-is)) ∙ e)))
   declined (items-full place x z l) =
-      met x (Passed·pairs (not-long-here x z)
+      met x (passed-pairs (not-long-here x z)
       (pairs-to rs t (more x z) (listed-beyond rs t x z) (suc pairs) (next x) (omega (arith, added-count (x .h) (z .y))) (soon x z)))
   declined (pool-full place x z m l) =
-      met x (Passed·pool (not-long-here x z)
+      met x (passed-pool (not-long-here x z)
       (λ n p. omega (arith, pairs-most rs t (more x z) (listed-beyond rs t x z) (next x) n p (arrives-more x z), added-count (x .h) (z .y)))
-      (more x z .pool) (terms-to x z) l)
+      (more x z .pool, terms-to x z, l))
 
   -- ---- an answer
 
@@ -198,12 +221,12 @@ module _ (rs : List Re) (t : Table) where
   -- ---- a refusal and an answer exclude each other, and so do two refusals
 
   passes : {last v : Text} {place : ℕ} {r : Refusal} → Bytes v → Sooner v last → Unpassed rs t last → Passed rs t v place r → ⊥
-  passes {v = v} b s u (Passed·long l) = u .none-long v b s l
-  passes {v = v} b s u (Passed·pairs f m) = omega (arith, u .pairs-few v (suc pairs) s m)
-  passes {v = v} b s u (Passed·pool f g terms m l) = omega (arith, u .terms-few v terms s m)
+  passes {v = v} b s u (passed-long l) = u .none-long v b s l
+  passes {v = v} b s u (passed-pairs f m) = omega (arith, u .pairs-few v (suc pairs) s m)
+  passes {v = v} b s u (passed-pool f g (terms, m, l)) = omega (arith, u .terms-few v terms s m)
 
   pub not-both : {r : Refusal} → Declined rs t r → WithinLimits rs t → ⊥
-  not-both d w = passes (d .is-text) (later (d .last)) (w (d .last ++ (0 ∷ []))) (d .passed)
+  not-both d w = passes (d .first .is-text) (later (d .last)) (w (d .last ++ (0 ∷ []))) (d .passed)
     where
       later : (u : Text) → Sooner u (u ++ (0 ∷ []))
       later u = shorter (omega (arith, length-snoc u 0))
@@ -217,21 +240,21 @@ module _ (rs : List Re) (t : Table) where
 
   -- at one text one limit is passed first
   passed-one : {last : Text} {m n : ℕ} {r q : Refusal} → m ≡ n → Passed rs t last m r → Passed rs t last n q → r ≡ q
-  passed-one e (Passed·long l) (Passed·long k) = ap Long e
-  passed-one e (Passed·long l) (Passed·pairs f x) = absurd (f l)
-  passed-one e (Passed·long l) (Passed·pool f g terms x k) = absurd (f l)
-  passed-one e (Passed·pairs f x) (Passed·long l) = absurd (f l)
-  passed-one e (Passed·pairs f x) (Passed·pairs g y) = ap Pairs e
-  passed-one e (Passed·pairs f x) (Passed·pool g h terms y k) = absurd (let z = h (suc pairs) x in omega arith)
-  passed-one e (Passed·pool f g terms x k) (Passed·long l) = absurd (f l)
-  passed-one e (Passed·pool f g terms x k) (Passed·pairs h y) = absurd (let z = g (suc pairs) y in omega arith)
-  passed-one e (Passed·pool f g terms x k) (Passed·pool h i others y l) = ap Pool e
+  passed-one e (passed-long l) (passed-long k) = ap Long e
+  passed-one e (passed-long l) (passed-pairs f x) = absurd (f l)
+  passed-one e (passed-long l) (passed-pool f g x) = absurd (f l)
+  passed-one e (passed-pairs f x) (passed-long l) = absurd (f l)
+  passed-one e (passed-pairs f x) (passed-pairs g y) = ap Pairs e
+  passed-one e (passed-pairs f x) (passed-pool g h y) = absurd (let z = h (suc pairs) x in omega arith)
+  passed-one e (passed-pool f g x) (passed-long l) = absurd (f l)
+  passed-one e (passed-pool f g x) (passed-pairs h y) = absurd (let z = g (suc pairs) y in omega arith)
+  passed-one e (passed-pool f g x) (passed-pool h i y) = ap Pool e
 
   pub declined-one : (r q : Refusal) → Declined rs t r → Declined rs t q → r ≡ q
-  declined-one r q a b = elim (not-later-or (a .last) (b .last)) [ inl n ↦ go n | inr s ↦ absurd (passes (b .is-text) s (a .before) (b .passed)) ]
+  declined-one r q a b = elim (not-later-or (a .last) (b .last)) [ inl n ↦ go n | inr s ↦ absurd (passes (b .first .is-text) s (a .first .before) (b .passed)) ]
     where
       go : NotLater (a .last) (b .last) → r ≡ q
-      go (sooner s) = absurd (passes (a .is-text) s (b .before) (a .passed))
+      go (sooner s) = absurd (passes (a .first .is-text) s (b .first .before) (a .passed))
       go (equal e) =
-          passed-one (leaving-one e (a .leaving) (b .leaving)) (a .passed)
+          passed-one (leaving-one e (a .first .leaving) (b .first .leaving)) (a .passed)
           (subst (λ (u : Text). Passed rs t u (b .place) q) (sym e) (b .passed))

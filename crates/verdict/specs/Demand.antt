@@ -3,11 +3,12 @@
 use Prim.Native.Nat.{ℕ, suc, _<_, _≤_}
 use mathlib.Core.Path.{_≡_}
 use mathlib.Core.List.{List, [], _∷_, _++_}
+use mathlib.Core.Logic.{_⊎_, _↔_}
 use lib.ListN.{length}
-use Rattle.number.specs.declared.Refusal.{Refusal}
-use Rattle.number.specs.declared.Refusal.the-variants.{Long, Pool, Pairs}
 use Rattle.number.specs.Limits.{bytes, pool, pairs, shownText}
 use Rattle.number.specs.Numbers.{Bytes}
+use Rattle.number.specs.Refused.{Row}
+use Rattle.number.specs.Refused.Row.{noRow, row}
 use Rattle.meaning.specs.Re.{Re, Text}
 use Rattle.meaning.specs.Rules.{Names, deriveBy, start}
 use Rattle.meaning.specs.Words.{reach, FirstWord}
@@ -90,27 +91,33 @@ pub record Unpassed (rs : List Re) (t : Table) (last : Text) : Type 0 where
   pub pairs-few : (v : Text) (n : ℕ) → Sooner v last → PairsTo rs t v n → n ≤ pairs
   pub terms-few : (v : Text) (terms : List Re) → Sooner v last → TermsTo rs v terms → length terms ≤ pool
 
--- a limit is passed at a text, in the order of the tests: Long, Pairs, Pool
-pub data Passed (rs : List Re) (t : Table) (last : Text) (place : ℕ) : Refusal → Type 0 where
-  long : LongAt rs last → Passed rs t last place (Long place)
-  pairs-full : (LongAt rs last → ⊥) → PairsTo rs t last (suc pairs) → Passed rs t last place (Pairs place)
-  pool-full : (LongAt rs last → ⊥) → ((n : ℕ) → PairsTo rs t last n → n ≤ pairs) → (terms : List Re) → TermsTo rs last terms → pool < length terms
-      → Passed rs t last place (Pool place)
-
 -- the number of the pair that a text leaves by its last byte; 0 for the empty text
 pub data Leaving (rs : List Re) (t : Table) (text : Text) (place : ℕ) : Type 0 where
   nothing : text ≡ [] → place ≡ 0 → Leaving rs t text place
   pair : (w : Text) (c : ℕ) → text ≡ w ++ (c ∷ []) → PairNumber rs t w place → Leaving rs t text place
 
--- what a refused comparison met: the first text at which a limit is passed, that limit, and the number of the pair being left
-pub record Declined (rs : List Re) (t : Table) (r : Refusal) : Type 0 where
-  pub last : Text
+-- the first text at which a limit is passed, and the number of the pair that it leaves
+pub record FirstPast (rs : List Re) (t : Table) (last : Text) (place : ℕ) : Type 0 where
   pub is-text : Bytes last
   pub before : Unpassed rs t last
-  pub place : ℕ
   pub leaving : Leaving rs t last place
-  pub passed : Passed rs t last place r
+
+-- more terms than may be held, up to a text
+abbrev pub Crowded : List Re → Text → Type 0
+Crowded rs last = (terms : List Re) × TermsTo rs last terms × (pool < length terms)
 
 -- no text passes a limit
 abbrev pub WithinLimits : List Re → Table → Type 0
 WithinLimits rs t = (last : Text) → Unpassed rs t last
+
+-- where a comparison declines, by the row of its refusal and the place that goes with it; the tests come in the order of the fields.
+-- Row 6 is Long; row 12 is Pairs, for a pair that is new when all are held; row 7 is Pool; there is no other, and no refusal exactly where no text passes a limit
+pub record Limits (rs : List Re) (t : Table) (answer : Row) : Type 0 where
+  pub long : (place : ℕ) → (answer ≡ row 6 place) ↔ ((last : Text) × FirstPast rs t last place × LongAt rs last)
+  pub pairs-full : (place : ℕ)
+      → (answer ≡ row 12 place) ↔ ((last : Text) × FirstPast rs t last place × (LongAt rs last → ⊥) × PairsTo rs t last (suc pairs))
+  pub pool-full : (place : ℕ)
+      → (answer ≡ row 7 place)
+      ↔ ((last : Text) × FirstPast rs t last place × (LongAt rs last → ⊥) × ((n : ℕ) → PairsTo rs t last n → n ≤ pairs) × Crowded rs last)
+  pub no-other : (n place : ℕ) → answer ≡ row n place → (n ≡ 6) ⊎ ((n ≡ 12) ⊎ (n ≡ 7))
+  pub none : (answer ≡ noRow) ↔ WithinLimits rs t

@@ -2,29 +2,36 @@
 -- To believe them, read the definitions: Demand, Compare and Calls here, Texts and Walk in walk, and those that they stand on.
 use Prim.Native.Nat.{ℕ, _≤_}
 use mathlib.Core.Path.{_≡_, refl}
-use mathlib.Core.List.{List}
+use mathlib.Core.Bool.{true, false}
+use mathlib.Core.List.{List, [], _∷_, map}
 use mathlib.Core.Logic.{_↔_}
+use lib.ListN.{length, replicate}
 use Rattle.number.specs.declared.Refusal.{Refusal}
-use Rattle.number.specs.declared.Refusal.the-variants.{Long}
-use Rattle.number.specs.Limits.{pairs, pool, shownText}
+use Rattle.number.specs.declared.Refusal.the-variants.{Long, Loaded, Room}
+use Rattle.number.specs.Limits.{pairs, pool}
 use Rattle.number.specs.Numbers.{Bytes}
-use Rattle.number.specs.Refused.Answer.{got}
+use Rattle.number.specs.Refused.{rowOf}
+use Rattle.number.specs.Refused.Answer.{got, refused}
 use Rattle.number.specs.Refused.Outcome.{gives, refuses}
 use Rattle.meaning.specs.Re.{Re, Text}
 use Rattle.meaning.specs.Words.{FirstWord, firstWord}
 use Rattle.book.specs.Book.{Book}
 use Rattle.book.specs.Reads.{readBook}
 use Rattle.book.specs.Expression.{meant}
-use Rattle.table.specs.Table.{Table}
+use Rattle.table.specs.Table.{Table, lent, wellFormed}
 use Rattle.cutting.specs.Cut.{Cut, Cuts, cutBy}
-use Rattle.built.specs.Calls.{buildBook}
+use Rattle.built.specs.Calls.{buildBook, buildOf}
+use Rattle.verdict.specs.declared.Compared.the-variants.{Same as Compared·same, Differs as Compared·differs, Refused as Compared·refused}
 use Rattle.verdict.specs.Compare.{Verdict, compareRulesTo, compareRules}
 use Rattle.verdict.specs.Compare.Verdict.{Same, Differs}
-use Rattle.verdict.specs.Calls.{compareBook}
-use Rattle.verdict.specs.Demand.{CutAlike, WholeAlike, Differ, PairNumber, Declined, WithinLimits}
-use Rattle.verdict.specs.DeclineLaws.{answered, not-both, declined-one}
+use Rattle.verdict.specs.Calls.{compared, compareBook, Comparison, compareOf}
+use Rattle.verdict.specs.Calls.Told.{same, differs}
+use Rattle.verdict.specs.Demand.{CutAlike, WholeAlike, Differ, PairNumber, Limits}
+use Rattle.verdict.specs.Called.{Roomy, Short, Refuses, Answered, OneText}
 use Rattle.verdict.specs.PairLaws.{number-one}
-use Rattle.verdict.specs.VerdictLaws.{book-cut, same-alike, same-exactly, shown-differs, declines-at, answers-within, wider-answered, wider-long, own-table}
+use Rattle.verdict.specs.VerdictLaws.{book-cut, same-alike, same-exactly, shown-differs, limits-at, wider-answered, wider-long, own-table}
+use Rattle.verdict.specs.CallLaws.{text-one, short-room, ill-formed, book-refused, call-answered, own-call}
+use Rattle.verdict.specs.Sample.{answersOfW, statedOfW, worked-w, answers, stated, refusals, rows, worked-answers, worked-refusals}
 
 -- a text has exactly one cut by a book's rules, as it has by a table (cutting, the-cut)
 pub the-book-cut : (rs : List Re) (room at : ℕ) (text : Text) (x : Cut) → Cuts (FirstWord rs) room at text x ↔ (cutBy (firstWord rs) room at text ≡ x)
@@ -43,28 +50,14 @@ module _ (file : List ℕ) (b : Book) (after : ℕ) (t : Table) (read : readBook
   pub the-difference : (text : Text) (x y : ℕ) → compareBook file t ≡ gives (Differs text x y) → Differ (meant b) t text x y
   the-difference = shown-differs file b after t read
 
-  -- it declines only where a limit is passed: by the first text that does, and its place is the number of the pair that this text leaves
-  pub the-limits : (r : Refusal) → compareBook file t ≡ refuses r → Declined (meant b) t r
-  the-limits = declines-at file b after t read
-
-  -- and answers only where none is
-  pub the-answer : (v : Verdict) → compareBook file t ≡ gives v → WithinLimits (meant b) t
-  the-answer = answers-within file b after t read
-
--- the two exclude each other, and there is one refusal at most: so texts alone fix whether it declines, by which refusal and at which place
-pub the-exactness : (rs : List Re) (t : Table) (r : Refusal) → Declined rs t r → WithinLimits rs t → ⊥
-the-exactness rs t r = not-both rs t
-
-pub the-refusal : (rs : List Re) (t : Table) (r q : Refusal) → Declined rs t r → Declined rs t q → r ≡ q
-the-refusal = declined-one
+  -- it declines exactly where a limit is passed, by the first text that passes one: the row of its refusal and the place, which is the number of the
+  -- pair that this text leaves; and it answers exactly where no text does
+  pub the-limits : Limits (meant b) t (rowOf (compareBook file t))
+  the-limits = limits-at file b after t read
 
 -- a pair has no two numbers
 pub the-number : (rs : List Re) (t : Table) (w : Text) (m n : ℕ) → PairNumber rs t w m → PairNumber rs t w n → m ≡ n
 the-number rs t w = number-one rs t
-
--- the pairs that may be counted and the bytes of the text area, as numbers: told a second time, so that a slip in Limits is seen
-pub the-numbers : (pairs ≡ 512) × (shownText ≡ 512)
-the-numbers = (refl, refl)
 
 -- wider limits take nothing back: what was answered with fewer pairs or terms allowed is answered with ours, and what was too long is so at the same place
 pub record Wider (most terms : ℕ) (t : Table) (rs : List Re) : Type 0 where
@@ -78,3 +71,55 @@ the-wider-comparison most terms less fewer t rs =
 -- on the table that our build made of the same book it answers Same
 pub the-own-table : (file : List ℕ) (t : Table) → buildBook file ≡ gives t → compareBook file t ≡ gives Same
 the-own-table = own-table
+
+-- a shown text is fixed, and so are its labels; it fits the text area by its length, which Differ tells
+pub the-one-text : (rs : List Re) (t : Table) (u v : Text) (x y z w : ℕ) → Differ rs t u x y → Differ rs t v z w → OneText u v x y z w
+the-one-text = text-one
+
+-- ---- the call: Room, Loaded, the book's refusal and the walk, in this order
+
+module _ (file : List ℕ) (s : ℕ) (labels targets area work : List ℕ) where
+  abbrev call : Comparison
+  call = compareOf file s labels targets area work
+
+  -- an area below its full size: Room with all as before, whatever the book and the table are
+  pub the-room : Short area work → call ≡ record { answer = refuses Room; text = area; work = work }
+  the-room = short-room file s labels targets area work
+
+  -- else a table that is not well formed: Loaded, whatever the book is
+  pub the-loaded : Roomy area work → wellFormed s labels targets ≡ false → Refuses Loaded area work call
+  the-loaded = ill-formed file s labels targets area work
+
+  -- else a book that is refused: its refusal
+  pub the-book : Roomy area work → wellFormed s labels targets ≡ true → (r : Refusal) → readBook file ≡ refused r → Refuses r area work call
+  the-book = book-refused file s labels targets area work
+
+  -- else what is answered of its rules and the table is exact, and stands in the areas
+  pub the-call : Roomy area work → wellFormed s labels targets ≡ true → (b : Book) (after : ℕ) → readBook file ≡ got b after
+      → Answered (meant b) (lent s labels targets) area work call
+  the-call = call-answered file s labels targets area work
+
+-- compared with the memory that its own build left, a book is the same
+pub the-own-call : (file labels targets scratch : List ℕ) (n : ℕ) → buildOf file labels targets scratch .table .answer ≡ gives n
+    → (area work : List ℕ) → Roomy area work
+    → compareOf file n (buildOf file labels targets scratch .table .labels) (buildOf file labels targets scratch .table .targets) area work
+    ≡ record { answer = gives same; text = replicate (length area) 0; work = replicate (length work) 0 }
+the-own-call = own-call
+
+-- the code's answers, as the paper has them: the length of the text, the book's label, the table's
+pub the-answers : map compared (Compared·same ∷ Compared·differs 2 1 0 ∷ Compared·refused Room ∷ [])
+    ≡ (gives same ∷ gives (differs 2 1 0) ∷ refuses Room ∷ [])
+the-answers = refl
+
+-- ---- computed by the checker
+
+-- document 01's two comparisons of W: against its own table, and against that table with state 5 merged into state 4
+pub the-worked-sheets : answersOfW ≡ statedOfW
+the-worked-sheets = worked-w
+
+-- other answers, and refusals by row and place
+pub the-worked-answers : answers ≡ stated
+the-worked-answers = worked-answers
+
+pub the-worked-refusals : refusals ≡ rows
+the-worked-refusals = worked-refusals

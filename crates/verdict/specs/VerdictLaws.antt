@@ -10,7 +10,7 @@ use Rattle.number.specs.declared.Refusal.{Refusal}
 use Rattle.number.specs.declared.Refusal.the-variants.{Long}
 use Rattle.number.specs.Limits.{pairs, pool}
 use Rattle.number.specs.Numbers.{Bytes}
-use Rattle.number.specs.Refused.{Answer, Outcome}
+use Rattle.number.specs.Refused.{Answer, Outcome, rowOf}
 use Rattle.number.specs.Refused.Answer.{got, refused}
 use Rattle.number.specs.Refused.Outcome.{gives, refuses}
 use Rattle.meaning.specs.Re.{Re, Text}
@@ -34,9 +34,10 @@ use Rattle.built.specs.Calls.{buildRead, buildBook}
 use Rattle.verdict.specs.Compare.{besideTo, beside, Verdict, comparedBy, compareRulesTo, compareRules}
 use Rattle.verdict.specs.Compare.Verdict.{Same, Differs}
 use Rattle.verdict.specs.Calls.{compareRead, compareBook}
-use Rattle.verdict.specs.Demand.{CutAlike, WholeAlike, AgreeOn, Differ, Declined, WithinLimits}
+use Rattle.verdict.specs.Demand.{CutAlike, WholeAlike, AgreeOn, Differ, WithinLimits, Limits}
 use Rattle.verdict.specs.CompareLaws.{compare-means, compare-same}
-use Rattle.verdict.specs.DeclineLaws.{declined, answered}
+use Rattle.verdict.specs.DeclineLaws.{Declined, declined, answered}
+use Rattle.verdict.specs.LimitLaws.{limits-refused, limits-answered}
 use Rattle.verdict.specs.CutsAlike.{cuts-agree, cuts-label, shown-cuts, shown-first}
 use Rattle.verdict.specs.OwnSheet.{own-same}
 
@@ -80,7 +81,7 @@ module _ (file : List ℕ) (b : Book) (after : ℕ) (t : Table) (read : readBook
         first-label = λ w k l f. s .first w k l (λ d. f (agree-on (meant b) t w d));
       }
 
-  pub declines-at : (r : Refusal) → compareBook file t ≡ refuses r → Declined (meant b) t r
+  declines-at : (r : Refusal) → compareBook file t ≡ refuses r → Declined (meant b) t r
   unfolding compareRules
   declines-at r e = go (walkFrom (beside t) (meant b)) (walk-met (beside t) (meant b) (omega arith)) (rules-of (refuses r) e)
     where
@@ -95,6 +96,13 @@ module _ (file : List ℕ) (b : Book) (after : ℕ) (t : Table) (read : readBook
       go : (w : Walked) → walkFrom (beside t) (meant b) ≡ w → comparedBy t w ≡ gives v → WithinLimits (meant b) t
       go (halted r) m d = absurd (let z : _≡_ {A = ℕ} 0 1 = cc in omega arith)
       go (walked h js) m d = answered (meant b) t h js m
+
+  pub limits-at : Limits (meant b) t (rowOf (compareBook file t))
+  limits-at = go (compareBook file t) refl
+    where
+      go : (o : Outcome Verdict) → compareBook file t ≡ o → Limits (meant b) t (rowOf o)
+      go (gives v) e = limits-answered (meant b) t (answers-within v e)
+      go (refuses r) e = limits-refused (meant b) t r (declines-at r e)
 
 -- ---- wider limits
 

@@ -55,7 +55,7 @@ module _ (way : Way) (rs : List Re) where
     ];
   }
 
-  underway-turn : (i : ℕ) (h : Held) → Underway way rs i bytes h → Underway way rs (suc i) 0 h
+  pub underway-turn : (i : ℕ) (h : Held) → Underway way rs i bytes h → Underway way rs (suc i) 0 h
   underway-turn i h u = record {
     rules-fit = u .rules-fit;
     good = u .good;
@@ -179,7 +179,7 @@ module _ (way : Way) (rs : List Re) where
         go TooLong d q f = subst (Met way rs) (stopped-refusal f) (long place tried d)
         go (Terms v) d q f = stopped-by v d q (came way place h (after way (item h i) c v)) r f
 
-    step-met : StepIs (Underway way rs i (suc c)) (Met way rs) (step way i h c)
+    pub step-met : StepIs (Underway way rs i (suc c)) (Met way rs) (step way i h c)
     step-met = go (step way i h c) refl
       where
         go : (s : Step) → step way i h c ≡ s → StepIs (Underway way rs i (suc c)) (Met way rs) s
@@ -203,7 +203,7 @@ module _ (way : Way) (rs : List Re) where
     row-done = λ d k. absurd (omega arith);
   }
 
-  begin-met : 0 < way .limit → (v : Vector) → normalised rs ≡ v → Is v (start rs) → StepIs (Underway way rs 0 0) (Met way rs) (beginBy way v)
+  pub begin-met : 0 < way .limit → (v : Vector) → normalised rs ≡ v → Is v (start rs) → StepIs (Underway way rs 0 0) (Met way rs) (beginBy way v)
   begin-met some TooLong d e = start-long d
   begin-met some (Terms v) d e = first-met some v d e (came way 0 nothingHeld (record { sheet = 0; vector = v; text = [] }))
 

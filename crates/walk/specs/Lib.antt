@@ -1,9 +1,10 @@
--- The walk over vectors, which building and comparing share. Definitions, in reading order: Vectors, Parts, Walk, Texts; the other files prove things of these.
--- Explored is what a finished walk has found, HaltLaws what a refused one met.
+-- The walk over vectors, which building and comparing share. Definitions, in reading order: Vectors, Parts, Walk, Texts, Bought, Sample; the other files prove things of these.
+-- Explored is what a finished walk has found, HaltLaws what a refused one met. Main gathers the theorems that are bought.
 pub mod Vectors
 pub mod Parts
 pub mod Walk
 pub mod Texts
+pub mod Bought
 pub mod TextLaws
 pub mod VectorLaws
 pub mod PartsLaws
@@ -15,3 +16,6 @@ pub mod CountLaws
 pub mod KeepLaws
 pub mod HaltLaws
 pub mod WiderLaws
+pub mod BoughtLaws
+pub mod Sample
+pub mod Main
