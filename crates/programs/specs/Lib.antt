@@ -6,5 +6,7 @@ pub mod EnoughLaws
 pub mod StandLaws
 pub mod PrintLaws
 pub mod Sample
+pub mod Prints
+pub mod FileLaws
 pub mod MainLaws
 pub mod Main
