@@ -22,8 +22,8 @@ use Rattle.vector.specs.Layout.{workLength}
 use Rattle.built.specs.Build.{buildRulesTo, buildRules}
 use Rattle.built.specs.Calls.{buildBook, buildOf}
 use Rattle.built.specs.Bought.{Right, Left, HasRoom, BuildsTable, BuildsNone, ChangesNothing}
-use Rattle.built.specs.States.{HasStates, Passed, WithinLimits}
-use Rattle.built.specs.StateLaws.{build-passes, build-within, build-states, not-both}
+use Rattle.built.specs.States.{HasStates, Declined, WithinLimits}
+use Rattle.built.specs.StateLaws.{build-declines, build-within, build-states, not-both, declined-one}
 use Rattle.built.specs.CallLaws.{build-right, call-left, wider-built, wider-long}
 use Rattle.built.specs.CallTold.{call-built, call-refused, call-unbuilt, call-few-labels, call-few-targets, call-short-work}
 use Rattle.built.specs.Sample.{wTable, wSheet, w-built, w-written, w-read-back}
@@ -82,16 +82,21 @@ module _ (file labels targets work : List ℕ) where
 -- ---- limits
 
 module _ (rs : List Re) where
-  -- a build is refused only where a limit is passed: it is Long, States or Pool, at the state being left, or at 0 for vector 0
-  pub the-limits : (r : Refusal) → buildRules rs ≡ refuses r → Passed rs r
-  the-limits = build-passes rs
+  -- a build is refused only where a limit is passed: at the first text that does, by Long, States or Pool, tested in this order,
+  -- and its place is the state that this text leaves, 0 for vector 0
+  pub the-limits : (r : Refusal) → buildRules rs ≡ refuses r → Declined rs r
+  the-limits = build-declines rs
 
-  -- it succeeds only where none is, and the two exclude each other: so texts alone fix whether rules are built
+  -- it succeeds only where none is
   pub the-answer : (t : Table) → buildRules rs ≡ gives t → WithinLimits rs
   the-answer = build-within rs
 
-  pub the-exactness : (r : Refusal) → Passed rs r → WithinLimits rs → ⊥
+  -- the two exclude each other, and there is one refusal at most: so texts alone fix whether rules are built, and else by which refusal not, and where
+  pub the-exactness : (r : Refusal) → Declined rs r → WithinLimits rs → ⊥
   the-exactness = not-both rs
+
+  pub the-refusal : (r q : Refusal) → Declined rs r → Declined rs q → r ≡ q
+  the-refusal = declined-one rs
 
   -- the numbers of states and terms that are allowed
   pub the-allowed : buildRules rs ≡ buildRulesTo 255 2048 rs

@@ -39,24 +39,47 @@ pub record HasStates (rs : List Re) (t : Table) : Type 0 where
 
 -- ---- limits
 
+-- the step that a text ends with takes a derivative that is too long; for the empty text, the rules themselves are
+pub data LongAt (rs : List Re) (text : Text) : Type 0 where
+  rules : text ≡ [] → normalised rs ≡ TooLong → LongAt rs text
+  step : (w : Text) (c : ℕ) → Bytes w → c < 256 → text ≡ w ++ (c ∷ []) → derived c (vectorAfter rs w) ≡ TooLong → LongAt rs text
+
+-- a text leads to one state more than 255
+abbrev pub StatesAt : List Re → Text → Type 0
+StatesAt rs text = StateText rs 255 text
+
 -- distinct terms, each a part of a vector that a text leads to, up to a text
 pub record TermsTo (rs : List Re) (last : Text) (terms : List Re) : Type 0 where
   pub once : Once terms
   pub part : (x : Re) → InPool terms x → (w : Text) × Bytes w × NotLater w last × PartOf x (vectorAfter rs w)
 
--- a limit that is passed, with the refusal and its place: of vector 0 the place is 0, else it is the state that is being left, w its first text and c the byte
-pub data Passed (rs : List Re) : Refusal → Type 0 where
-  rules-long : normalised rs ≡ TooLong → Passed rs (Long 0)
-  rules-pool : (terms : List Re) → TermsTo rs [] terms → 2048 < length terms → Passed rs (Pool 0)
-  step-long : (n : ℕ) (w : Text) (c : ℕ) → StateText rs n w → c < 256 → derived c (vectorAfter rs w) ≡ TooLong → Passed rs (Long n)
-  -- the step comes to one state more than 255
-  step-states : (n : ℕ) (w : Text) (c : ℕ) → StateText rs n w → c < 256 → StateText rs 255 (w ++ (c ∷ [])) → Passed rs (States n)
-  step-pool : (n : ℕ) (w : Text) (c : ℕ) → StateText rs n w → c < 256 → (terms : List Re) → TermsTo rs (w ++ (c ∷ [])) terms → 2048 < length terms
-      → Passed rs (Pool n)
+-- no limit is passed before a text
+pub record Unpassed (rs : List Re) (last : Text) : Type 0 where
+  pub none-long : (v : Text) → Bytes v → Sooner v last → LongAt rs v → ⊥
+  pub none-more : (v : Text) → Sooner v last → StatesAt rs v → ⊥
+  pub terms-few : (v : Text) (terms : List Re) → Sooner v last → TermsTo rs v terms → length terms ≤ 2048
 
--- no limit is passed
-pub record WithinLimits (rs : List Re) : Type 0 where
-  pub rules-fit : normalised rs ≡ TooLong → ⊥
-  pub steps-fit : (w : Text) (c : ℕ) → Bytes w → c < 256 → derived c (vectorAfter rs w) ≡ TooLong → ⊥
-  pub few-states : (n : ℕ) (w : Text) → StateText rs n w → n < 255
-  pub few-terms : (last : Text) (terms : List Re) → TermsTo rs last terms → length terms ≤ 2048
+-- a limit is passed at a text, in the order of the tests: Long, States, Pool
+pub data Passed (rs : List Re) (last : Text) (place : ℕ) : Refusal → Type 0 where
+  long : LongAt rs last → Passed rs last place (Long place)
+  states-full : (LongAt rs last → ⊥) → StatesAt rs last → Passed rs last place (States place)
+  pool-full : (LongAt rs last → ⊥) → (StatesAt rs last → ⊥) → (terms : List Re) → TermsTo rs last terms → 2048 < length terms
+      → Passed rs last place (Pool place)
+
+-- the number of the state that a text leaves by its last byte; 0 for the empty text
+pub data Leaving (rs : List Re) (text : Text) (place : ℕ) : Type 0 where
+  nothing : text ≡ [] → place ≡ 0 → Leaving rs text place
+  state : (w : Text) (c : ℕ) → text ≡ w ++ (c ∷ []) → StateText rs place w → Leaving rs text place
+
+-- what a refused build met: the first text at which a limit is passed, that limit, and the number of the state being left
+pub record Declined (rs : List Re) (r : Refusal) : Type 0 where
+  pub last : Text
+  pub is-text : Bytes last
+  pub before : Unpassed rs last
+  pub place : ℕ
+  pub leaving : Leaving rs last place
+  pub passed : Passed rs last place r
+
+-- no text passes a limit
+abbrev pub WithinLimits : List Re → Type 0
+WithinLimits rs = (last : Text) → Unpassed rs last
