@@ -1,8 +1,7 @@
 -- What a call of build answers and leaves, told in lists: the proofs of the theorems on the call in Main.
 -- What a table area looks like afterwards is said in table's Areas; here it comes to books, their builds and the work area.
-use Prim.Native.Nat.{ℕ, _≤_, _<_}
-use native.Mathlib.Omega.{arith}
-use mathlib.Core.Path.{_≡_, refl, sym, ap, subst, _∙_}
+use Prim.Native.Nat.{ℕ, _<_}
+use mathlib.Core.Path.{_≡_, refl, ap, _∙_}
 use mathlib.Core.Bool.{Bool, true, false, _||_}
 use mathlib.Core.List.{List}
 use borrow.Author.Tests.{lt-ltb, le-ltb}
@@ -18,11 +17,10 @@ use Rattle.book.specs.Reads.{readBook}
 use Rattle.book.specs.Expression.{meant}
 use Rattle.table.specs.Table.{Table}
 use Rattle.table.specs.Calls.{cramped, untouched}
-use Rattle.table.specs.Areas.{LeavesTable, LeavesZeros}
 use Rattle.table.specs.AreaLaws.{roomy, cramped-labels, cramped-targets, filled-leaves, cleared-leaves, untouched-leaves}
 use Rattle.vector.specs.Layout.{workLength}
 use Rattle.built.specs.Build.{buildRules}
-use Rattle.built.specs.Calls.{buildRead, buildBook, filledBy, Building, buildOf}
+use Rattle.built.specs.Calls.{buildRead, buildBook, filledBy, buildOf}
 use Rattle.built.specs.Bought.{HasRoom, BuildsTable, BuildsNone, ChangesNothing}
 use Rattle.built.specs.CallLaws.{build-right}
 

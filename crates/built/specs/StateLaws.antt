@@ -1,6 +1,6 @@
 -- The walk's items are the states, in the order of their first texts; a build that is refused met a limit at the first text that passes one, and one that succeeds passes none.
 -- What is held while the walk goes on comes from walk's HaltLaws.
-use Prim.Native.Nat.{ℕ, suc, _<_, _≤_}
+use Prim.Native.Nat.{ℕ, _<_, _≤_}
 use mathlib.Core.Path.{_≡_, refl, sym, ap, subst, _∙_}
 use mathlib.Core.List.{List, [], _∷_, _++_}
 use mathlib.Core.Logic.{inl, inr}
@@ -199,8 +199,8 @@ module _ (rs : List Re) where
         earlier = each-added (x .h) (z .y) (λ k a. (v : Text) → Bytes v → Sooner v (a .text) → (j : ℕ) × (j < k) × (item more j .vector ≡ vectorAfter rs v))
             (λ k l v b s. let (j, o, e) = held-numbered .earlier k l v b s in (j, o, ap (λ (y : Item). y .vector) (added-old (x .h) (z .y) j (omega arith)) ∙ e))
             (λ v b s.
-                let (j, a) = arrives v b (subst (Sooner v) (z .text-is) s) in
-                (j, a .inside, ap (λ (y : Item). y .vector) (added-old (x .h) (z .y) j (a .inside)) ∙ a .vector-is));
+            let (j, a) = arrives v b (subst (Sooner v) (z .text-is) s) in
+            (j, a .inside, ap (λ (y : Item). y .vector) (added-old (x .h) (z .y) j (a .inside)) ∙ a .vector-is));
       }
 
       -- one state more, which has the next number

@@ -4,35 +4,30 @@ use Prim.Native.Nat.{ℕ, _<_, _≤_}
 use native.Mathlib.Omega.{arith}
 use native.Mathlib.Decide.{decLt}
 use mathlib.Core.Path.{_≡_, refl, sym, ap, _∙_}
-use mathlib.Core.List.{List, [], _∷_, _++_}
+use mathlib.Core.List.{List, _∷_, _++_}
 use borrow.Author.Tests.{lt-ltb}
-use lib.ListN.{length, getD, length-append}
+use lib.ListN.{length, length-append}
 use lib.Seq.{getD-append-seam}
 use Rattle.number.specs.declared.Refusal.{Refusal}
 use Rattle.number.specs.declared.Refusal.the-variants.{Input}
 use Rattle.number.specs.Limits.{bookFile, textFile, sheetFile}
-use Rattle.number.specs.Refused.Answer.{got, refused}
+use Rattle.number.specs.Refused.Answer.{got}
 use Rattle.number.specs.Refused.Outcome.{gives, refuses}
 use Rattle.meaning.specs.Re.{Text}
 use Rattle.book.specs.Book.{Rule, Book}
 use Rattle.book.specs.Reads.{readBook}
-use Rattle.book.specs.Expression.{meant}
 use Rattle.book.specs.Calls.{kindIn as kindFrom}
 use Rattle.table.specs.Table.{Table}
 use Rattle.table.specs.Sheet.{writeSheet}
-use Rattle.built.specs.Build.{buildRules}
-use Rattle.built.specs.Calls.{buildRead, buildBook}
+use Rattle.built.specs.Calls.{buildBook}
 use Rattle.lines.specs.Digits.{digitsBy, decimal}
 use Rattle.lines.specs.Lines.{item, refusedLine}
 use Rattle.programs.specs.Output.{kindNumber, kindIn}
 use Rattle.programs.specs.Print.{cutBuilt, cutPrint, comparePrint, sheetBuilt, sheetOf}
-use Rattle.programs.specs.PrintLaws.{cut-no-book, cut-no-text, cut-both, compare-no-book, compare-no-sheet, sheet-no-book, sheet-whole}
+use Rattle.programs.specs.Prints.{overLine}
+use Rattle.programs.specs.PrintLaws.{cut-no-book, cut-no-text, cut-both, compare-no-book, compare-no-sheet, sheet-whole}
 
 -- ---- sizes
-
--- `refused 13 0`
-abbrev pub overLine : List ℕ
-overLine = 114 ∷ 101 ∷ 102 ∷ 117 ∷ 115 ∷ 101 ∷ 100 ∷ 32 ∷ 49 ∷ 51 ∷ 32 ∷ 48 ∷ 10 ∷ []
 
 over-line : refusedLine Input ≡ overLine
 unfolding refusedLine item decimal digitsBy

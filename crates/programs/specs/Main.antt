@@ -29,9 +29,9 @@ use Rattle.verdict.specs.Main.{the-same, the-difference}
 use Rattle.programs.specs.Output.{kindIn}
 use Rattle.programs.specs.Print.{cutPrint, Printed, verdictLines, comparePrint, sheetOf}
 use Rattle.programs.specs.Sample.{sampleText, sampleLines, sample-printed, stuckText, stuckLines, stuck-printed, sample-sheet}
-use Rattle.programs.specs.Prints.{Print, printed, stated, prints, prints-hold}
+use Rattle.programs.specs.Prints.{overLine, printed, stated, prints, prints-hold}
 use Rattle.programs.specs.PrintLaws.{sheet-no-book}
-use Rattle.programs.specs.FileLaws.{overLine, cut-book-over, cut-text-over, compare-book-over, compare-sheet-over, cut-none, sheet-none, sheet-of, kind-of}
+use Rattle.programs.specs.FileLaws.{cut-book-over, cut-text-over, compare-book-over, compare-sheet-over, cut-none, sheet-none, sheet-of, kind-of}
 use Rattle.programs.specs.MainLaws.{words-printed, same-only, compare-by, compare-next, own-sheet}
 
 -- ---- one answer

@@ -4,7 +4,7 @@ use Prim.Native.Nat.{ℕ}
 use mathlib.Core.Path.{_≡_, refl}
 use mathlib.Core.List.{List, [], _∷_, map}
 use lib.ListN.{take}
-use Rattle.number.specs.Numbers.{due, several, readNumber, within, field, writeNumber}
+use Rattle.number.specs.Numbers.{due, several, readNumber, within, field}
 use Rattle.meaning.specs.Re.{Text, size}
 use Rattle.meaning.specs.Order.{order}
 use Rattle.meaning.specs.Normal.{chain, cat, gathered, kept, placed, sorted, nested, alt, star, normal}
@@ -63,7 +63,7 @@ newer = 0x02 ∷ 0x01 ∷ []
 
 -- ---- lines
 
--- `refused ` and a newline stand in each of these
+-- `refused ` and what follows it
 abbrev refusal : List ℕ → List ℕ
 refusal rest = 114 ∷ 101 ∷ 102 ∷ 117 ∷ 115 ∷ 101 ∷ 100 ∷ 32 ∷ rest
 
@@ -97,6 +97,10 @@ lettersLines =
 -- `differs 2 1 2` and `746f`
 abbrev mergedLines : List ℕ
 mergedLines = 100 ∷ 105 ∷ 102 ∷ 102 ∷ 101 ∷ 114 ∷ 115 ∷ 32 ∷ 50 ∷ 32 ∷ 49 ∷ 32 ∷ 50 ∷ 10 ∷ 55 ∷ 52 ∷ 54 ∷ 102 ∷ 10 ∷ []
+
+-- `13 0`: a file that is over its size
+abbrev pub overLine : List ℕ
+overLine = refusal (49 ∷ 51 ∷ 32 ∷ 48 ∷ 10 ∷ [])
 
 -- `1 35`, `1 72` and `3 0`
 abbrev bookEnds : List ℕ

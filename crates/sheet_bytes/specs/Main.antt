@@ -11,8 +11,8 @@ use Rattle.lines.specs.Lines.{refusedLine}
 use Rattle.programs.specs.Main.{one-print}
 use Rattle.sheet_bytes.specs.declared.Put.{Put}
 use Rattle.sheet_bytes.specs.declared.Put.the-variants.{Sheet, Line}
-use Rattle.sheet_bytes.specs.Put.{Puts}
-use Rattle.sheet_bytes.specs.PutLaws.{put-one, Fronts, sheet-put, line-put}
+use Rattle.sheet_bytes.specs.Put.{Puts, Fronts}
+use Rattle.sheet_bytes.specs.PutLaws.{put-one, sheet-put, line-put}
 
 pub one-sheet : {x : Outcome (List ℕ)} {o o₁ o₂ : List ℕ} (p q : Put) → Puts x o o₁ p → Puts x o o₂ q → (p ≡ q) × (o₁ ≡ o₂)
 one-sheet p q a b = let z = one-print (a .front) (b .front) in (put-one p q (a .which ∙ sym (b .which)) (z .0), z .1)

@@ -4,7 +4,7 @@ use Prim.Native.Nat.{ℕ, _+_, _≤_}
 use native.Mathlib.Omega.{arith}
 use mathlib.Core.Path.{_≡_, refl, sym, ap, subst, _∙_}
 use mathlib.Core.List.{List, _++_}
-use lib.ListN.{length, take, drop}
+use lib.ListN.{length, drop}
 use lib.Seq.{take-at, drop-at}
 use Rattle.number.specs.declared.Refusal.{Refusal}
 use Rattle.number.specs.Lists.{written, Writes}
@@ -24,7 +24,7 @@ use Rattle.programs.specs.Print.{sheetBuilt}
 use Rattle.programs.specs.StandLaws.{Built, no-count, same-count, same-refusal}
 use Rattle.sheet_bytes.specs.declared.Put.{Put}
 use Rattle.sheet_bytes.specs.declared.Put.the-variants.{Sheet, Line}
-use Rattle.sheet_bytes.specs.Put.{sheetPut, sheetLength, putAnswer, putEnd, Puts}
+use Rattle.sheet_bytes.specs.Put.{sheetPut, sheetLength, putAnswer, putEnd, Puts, Fronts}
 
 -- the answer is one of its two: which, and where it ends, say all of it
 pub put-one : (p q : Put) → putAnswer p ≡ putAnswer q → putEnd p ≡ putEnd q → p ≡ q
@@ -38,11 +38,6 @@ puts-as {x} {y} {o} {o′} {p} e put = subst (λ (z : Outcome (List ℕ)). Puts 
 
 pub sheet-refused : (x : Outcome Table) (r : Refusal) → x ≡ refuses r → sheetBuilt x ≡ refuses r
 sheet-refused x r e = ap sheetBuilt e
-
--- bytes stand in front of a buffer, and what stood behind them stays
-pub record Fronts (w o o′ : List ℕ) : Type 0 where
-  pub front : take (length w) o′ ≡ w
-  pub behind : drop (length w) o′ ≡ drop (length w) o
 
 fronts : (w o o′ : List ℕ) (end : ℕ) → Writes w o o′ 0 end → Fronts w o o′
 unfolding written
