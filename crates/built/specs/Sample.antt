@@ -1,10 +1,12 @@
--- The build of the sample book W: 7 states, with the labels that document 01 gives.
--- The checker computes it.
+-- The build of the sample book W: its table of 7 states with all their targets, and its sheet in bytes, as program sheet writes it.
+-- The checker computes each equation.
 use Prim.Native.Nat.{ℕ}
-use mathlib.Core.Path.{_≡_, refl}
-use mathlib.Core.List.{List, [], _∷_}
-use Rattle.number.specs.Refused.{Outcome}
-use Rattle.number.specs.Refused.Outcome.{gives, refuses}
+use mathlib.Core.Path.{_≡_, refl, ap, _∙_}
+use mathlib.Core.List.{List, [], _∷_, _++_}
+use lib.ListN.{replicate}
+use Rattle.number.specs.Numbers.{due, several, readNumber, within, field, writeNumber}
+use Rattle.number.specs.Refused.Answer.{got}
+use Rattle.number.specs.Refused.Outcome.{gives}
 use Rattle.meaning.specs.Sample.{W}
 use Rattle.meaning.specs.Re.{size}
 use Rattle.meaning.specs.Order.{order}
@@ -12,16 +14,67 @@ use Rattle.meaning.specs.Normal.{chain, cat, gathered, kept, placed, sorted, ne
 use Rattle.meaning.specs.Derive.{nullable, deriv}
 use Rattle.meaning.specs.Limited.{derivFit, normalFit}
 use Rattle.meaning.specs.Rules.{labelFrom}
+use Rattle.book.specs.Sample.{wBytes, w-reads, w-means}
+use Rattle.table.specs.Table.{Table}
+use Rattle.table.specs.Sheet.{readRuns, readStates, sheet, readSheet}
+use Rattle.table.specs.Sheet.{joined, runsOf, writeRuns, writeRow, writeStates, writeSheet}
 use Rattle.walk.specs.Vectors.{derived, normalised, sameVector}
 use Rattle.walk.specs.Parts.{holds, withTerm, withParts, withVector}
 use Rattle.walk.specs.Walk.{numberIn, come, step, row, rows, walkFrom}
-use Rattle.table.specs.Table.{Table}
 use Rattle.built.specs.Build.{buildRules}
+use Rattle.built.specs.Calls.{buildRead, buildBook}
 
-abbrev labelsOf : Outcome Table → List ℕ
-labelsOf (gives t) = t .labels
-labelsOf (refuses r) = []
+-- states: 0 the start, 1 the dead one, 2 after a space, 3 after digits, 4 after letters, 5 after `t`, 6 after `to`.
+-- By a space (32), digits (48 to 57) and letters (97 to 122, t is 116) on from the start
+abbrev startRow : List ℕ
+startRow =
+    replicate 32 1 ++ (replicate 1 2 ++ (replicate 15 1 ++ (replicate 10 3 ++ (replicate 39 1
+    ++ (replicate 19 4 ++ (replicate 1 5 ++ (replicate 6 4 ++ replicate 133 1)))))))
 
-pub w-labels : labelsOf (buildRules W) ≡ 0 ∷ 0 ∷ 4 ∷ 3 ∷ 2 ∷ 2 ∷ 1 ∷ []
-unfolding buildRules walkFrom rows row step come numberIn withVector withParts withTerm holds sameVector derived normalised labelFrom derivFit normalFit deriv nullable normal star alt nested sorted placed kept gathered cat chain order size
-w-labels = refl
+abbrev deadRow : List ℕ
+deadRow = replicate 256 1
+
+abbrev digitsRow : List ℕ
+digitsRow = replicate 48 1 ++ (replicate 10 3 ++ replicate 198 1)
+
+abbrev lettersRow : List ℕ
+lettersRow = replicate 97 1 ++ (replicate 26 4 ++ replicate 133 1)
+
+-- o is 111
+abbrev afterT : List ℕ
+afterT = replicate 97 1 ++ (replicate 14 4 ++ (replicate 1 6 ++ (replicate 11 4 ++ replicate 133 1)))
+
+unfoldable pub wTable : Table
+wTable = record {
+  count = 7;
+  labels = 0 ∷ 0 ∷ 4 ∷ 3 ∷ 2 ∷ 2 ∷ 1 ∷ [];
+  targets = startRow ++ (deadRow ++ (deadRow ++ (digitsRow ++ (lettersRow ++ (afterT ++ lettersRow)))));
+}
+
+-- version and state count; then a line for each state: its label, its run count, and its runs, each as length and target
+unfoldable pub wSheet : List ℕ
+wSheet =
+    0x01 ∷ 0x07 ∷
+    0x00 ∷ 0x09 ∷ 0x20 ∷ 0x01 ∷ 0x01 ∷ 0x02 ∷ 0x0F ∷ 0x01 ∷ 0x0A ∷ 0x03 ∷ 0x27 ∷ 0x01 ∷ 0x13 ∷ 0x04 ∷ 0x01 ∷ 0x05 ∷ 0x06 ∷ 0x04 ∷ 0x85 ∷ 0x01 ∷ 0x01 ∷
+    0x00 ∷ 0x01 ∷ 0x80 ∷ 0x02 ∷ 0x01 ∷
+    0x04 ∷ 0x01 ∷ 0x80 ∷ 0x02 ∷ 0x01 ∷
+    0x03 ∷ 0x03 ∷ 0x30 ∷ 0x01 ∷ 0x0A ∷ 0x03 ∷ 0xC6 ∷ 0x01 ∷ 0x01 ∷
+    0x02 ∷ 0x03 ∷ 0x61 ∷ 0x01 ∷ 0x1A ∷ 0x04 ∷ 0x85 ∷ 0x01 ∷ 0x01 ∷
+    0x02 ∷ 0x05 ∷ 0x61 ∷ 0x01 ∷ 0x0E ∷ 0x04 ∷ 0x01 ∷ 0x06 ∷ 0x0B ∷ 0x04 ∷ 0x85 ∷ 0x01 ∷ 0x01 ∷
+    0x01 ∷ 0x03 ∷ 0x61 ∷ 0x01 ∷ 0x1A ∷ 0x04 ∷ 0x85 ∷ 0x01 ∷ 0x01 ∷
+    []
+
+pub w-builds : buildRules W ≡ gives wTable
+unfolding wTable buildRules walkFrom rows row step come numberIn withVector withParts withTerm holds sameVector derived normalised labelFrom derivFit normalFit deriv nullable normal star alt nested sorted placed kept gathered cat chain order size
+w-builds = refl
+
+pub w-built : buildBook wBytes ≡ gives wTable
+w-built = ap buildRead w-reads ∙ ap buildRules w-means ∙ w-builds
+
+pub w-written : writeSheet wTable ≡ wSheet
+unfolding wTable wSheet writeSheet writeStates writeRow writeRuns runsOf joined writeNumber
+w-written = refl
+
+pub w-read-back : readSheet wSheet ≡ got wTable 73
+unfolding wTable wSheet sheet readStates readRuns field within readNumber due several
+w-read-back = refl

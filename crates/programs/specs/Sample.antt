@@ -1,5 +1,5 @@
--- What program cut prints for the sample book W and the text `to tom 7`, byte by byte, which is document 01's whole output; and for `to tom #7`.
--- The checker computes both, from the book's bytes on.
+-- What program cut prints for the sample book W and the text `to tom 7`, byte by byte, which is document 01's whole output; and for `to tom #7`; and W's sheet.
+-- The checker computes all three, from the book's bytes on.
 use Prim.Native.Nat.{ℕ, _≤_}
 use native.Mathlib.Omega.{arith}
 use mathlib.Core.Path.{_≡_, refl, sym, ap, _∙_}
@@ -29,11 +29,12 @@ use Rattle.cutting.specs.Steps.{firstBy}
 use Rattle.cutting.specs.Cut.{cutBy}
 use Rattle.built.specs.Build.{buildRules}
 use Rattle.built.specs.Calls.{buildRead}
+use Rattle.built.specs.Sample.{wSheet, w-built, w-written}
 use Rattle.lines.specs.Digits.{digitsBy, decimal}
 use Rattle.lines.specs.Lines.{item, wordLine, doneLine, stuckLine, refusedLine}
 use Rattle.programs.specs.Output.{kindNumber, wordLines, cutLines}
-use Rattle.programs.specs.Print.{cutBuilt, cutPrint}
-use Rattle.programs.specs.PrintLaws.{cut-both}
+use Rattle.programs.specs.Print.{cutBuilt, cutPrint, sheetBuilt, sheetOf}
+use Rattle.programs.specs.PrintLaws.{cut-both, sheet-whole}
 
 -- `to tom 7`
 abbrev pub sampleText : Text
@@ -71,10 +72,12 @@ lines-by : (text : Text) (o : Outcome Table) → cutBuilt wBytes text o ≡ line
 lines-by text (gives t) = refl
 lines-by text (refuses r) = refl
 
+small : length wBytes ≤ bookFile
+small = omega (arith, w-length)
+
 -- so that only this is left to compute
 printed-by : (text : Text) → length text ≤ textFile → cutPrint wBytes text ≡ linesBy text (got wBook 36) (buildRules W)
 printed-by text short =
-    let small : length wBytes ≤ bookFile = omega (arith, w-length) in
     sym (cut-both wBytes text small short)
     ∙ ap (cutBuilt wBytes text) (ap buildRead w-reads ∙ ap buildRules w-means)
     ∙ lines-by text (buildRules W)
@@ -93,3 +96,6 @@ computed-stuck = refl
 
 pub stuck-printed : cutPrint wBytes stuckText ≡ stuckLines
 stuck-printed = printed-by stuckText (omega arith) ∙ computed-stuck
+
+pub sample-sheet : sheetOf wBytes ≡ gives wSheet
+sample-sheet = sym (sheet-whole wBytes small) ∙ ap sheetBuilt w-built ∙ ap gives w-written

@@ -1,4 +1,4 @@
--- Put says what stands in the buffer and what sheet_bytes answers; Main has the theorem that is bought.
+-- Put says what stands in the buffer and what sheet_bytes answers; Main has the theorems that are bought.
 -- The laws are the code's.
 pub mod Put
 pub mod PutLaws

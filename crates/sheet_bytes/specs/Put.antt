@@ -3,7 +3,7 @@
 use Prim.Native.Nat.{ℕ, _≤_}
 use mathlib.Core.Path.{_≡_}
 use mathlib.Core.List.{List}
-use lib.ListN.{length}
+use lib.ListN.{length, take, drop}
 use Rattle.number.specs.Refused.{Outcome}
 use Rattle.number.specs.Refused.Outcome.{gives, refuses}
 use Rattle.number.specs.Lists.{Writes}
@@ -34,3 +34,8 @@ pub record Puts (x : Outcome (List ℕ)) (o o′ : List ℕ) (p : Put) : Type 0 
   pub front : Writes (sheetPut x) o o′ 0 (putEnd p)
   pub which : putAnswer p ≡ sheetLength x
   pub fits : putEnd p ≤ length o′
+
+-- the same in lists, for the theorems: bytes stand in front of a buffer, and what stood behind them stays
+pub record Fronts (w o o′ : List ℕ) : Type 0 where
+  pub front : take (length w) o′ ≡ w
+  pub behind : drop (length w) o′ ≡ drop (length w) o

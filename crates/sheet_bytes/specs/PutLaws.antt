@@ -5,8 +5,9 @@ use native.Mathlib.Omega.{arith}
 use mathlib.Core.Path.{_≡_, refl, sym, ap, subst, _∙_}
 use mathlib.Core.List.{List, _++_}
 use lib.ListN.{length, drop}
+use lib.Seq.{take-at, drop-at}
 use Rattle.number.specs.declared.Refusal.{Refusal}
-use Rattle.number.specs.Lists.{written}
+use Rattle.number.specs.Lists.{written, Writes}
 use Rattle.number.specs.Refused.{Outcome}
 use Rattle.number.specs.Refused.Outcome.{gives, refuses}
 use Rattle.table.specs.declared.Written.{Written}
@@ -18,11 +19,12 @@ use Rattle.table.specs.SheetCalls.{write-formed}
 use Rattle.table.specs.SheetBytes.{sheet-length}
 use Rattle.table.specs.Calls.{wrote, Output, writeOf}
 use Rattle.table.specs.Promises.{WritesSheet}
+use Rattle.lines.specs.Lines.{refusedLine}
 use Rattle.programs.specs.Print.{sheetBuilt}
 use Rattle.programs.specs.StandLaws.{Built, no-count, same-count, same-refusal}
 use Rattle.sheet_bytes.specs.declared.Put.{Put}
 use Rattle.sheet_bytes.specs.declared.Put.the-variants.{Sheet, Line}
-use Rattle.sheet_bytes.specs.Put.{putAnswer, putEnd, Puts}
+use Rattle.sheet_bytes.specs.Put.{sheetPut, sheetLength, putAnswer, putEnd, Puts, Fronts}
 
 -- the answer is one of its two: which, and where it ends, say all of it
 pub put-one : (p q : Put) → putAnswer p ≡ putAnswer q → putEnd p ≡ putEnd q → p ≡ q
@@ -36,6 +38,29 @@ puts-as {x} {y} {o} {o′} {p} e put = subst (λ (z : Outcome (List ℕ)). Puts 
 
 pub sheet-refused : (x : Outcome Table) (r : Refusal) → x ≡ refuses r → sheetBuilt x ≡ refuses r
 sheet-refused x r e = ap sheetBuilt e
+
+fronts : (w o o′ : List ℕ) (end : ℕ) → Writes w o o′ 0 end → Fronts w o o′
+unfolding written
+fronts w o o′ end put =
+    let e : 0 + length w ≡ length w = omega arith in
+    let d : o′ ≡ w ++ drop (length w) o = put .out ∙ rw e refl in
+    record { front = rw d (take-at w (drop (length w) o) (length w) refl); behind = rw d (drop-at w (drop (length w) o) (length w) refl) }
+
+module _ (x : Outcome (List ℕ)) (o o′ : List ℕ) (p : Put) (put : Puts x o o′ p) where
+  module _ (w : List ℕ) (e : sheetPut x ≡ w) where
+    ends : putEnd p ≡ length w
+    ends = omega (arith, put .front .place, ap length e)
+
+    stands : Fronts w o o′
+    stands = fronts w o o′ (putEnd p) (subst (λ (v : List ℕ). Writes v o o′ 0 (putEnd p)) e (put .front))
+
+  pub sheet-put : (sheet : List ℕ) → x ≡ gives sheet → (p ≡ Sheet (length sheet)) × Fronts sheet o o′
+  sheet-put sheet e = (put-one p (Sheet (length sheet)) (put .which ∙ ap sheetLength e) (ends sheet (ap sheetPut e)), stands sheet (ap sheetPut e))
+
+  pub line-put : (r : Refusal) → x ≡ refuses r → (p ≡ Line r (length (refusedLine r))) × Fronts (refusedLine r) o o′
+  line-put r e =
+      let w : List ℕ = refusedLine r in
+      (put-one p (Line r (length w)) (put .which ∙ ap sheetLength e) (ends w (ap sheetPut e)), stands w (ap sheetPut e))
 
 -- a table that was built is always written
 module _ (x : Outcome Table) (n : ℕ) (l t o o′ : List ℕ) (b : Built x n l t) (room : longestSheet ≤ length o) where
