@@ -5,6 +5,7 @@ pub mod Parts
 pub mod Walk
 pub mod Texts
 pub mod Bought
+pub mod Passing
 pub mod TextLaws
 pub mod VectorLaws
 pub mod PartsLaws
@@ -15,6 +16,8 @@ pub mod RunLaws
 pub mod CountLaws
 pub mod KeepLaws
 pub mod HaltLaws
+pub mod PassingLaws
+pub mod FollowLaws
 pub mod WiderLaws
 pub mod BoughtLaws
 pub mod Sample
