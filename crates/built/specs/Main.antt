@@ -1,5 +1,5 @@
 -- The theorems of building that are bought, together; each is proved in the file that its proof names, or computed there or here.
--- To believe them, read the definitions: Build, Calls, Bought and States here, Areas in table, Walk, Vectors and Parts in walk, and those that they stand on.
+-- To believe them, read the definitions: Build, Calls, Bought and States here, Areas in table, Walk, Vectors, Parts and Passing in walk, and those that they stand on.
 use Prim.Native.Nat.{ℕ, _≤_, _<_}
 use mathlib.Core.Path.{_≡_, refl}
 use mathlib.Core.List.{List, map}
@@ -18,12 +18,13 @@ use Rattle.book.specs.Expression.{meant}
 use Rattle.book.specs.Sample.{wBytes}
 use Rattle.table.specs.Table.{Table}
 use Rattle.table.specs.Sheet.{readSheet, writeSheet}
+use Rattle.walk.specs.Passing.{Limits}
 use Rattle.vector.specs.Layout.{workLength}
 use Rattle.built.specs.Build.{buildRulesTo, buildRules}
 use Rattle.built.specs.Calls.{buildBook, buildOf}
 use Rattle.built.specs.Bought.{Right, Left, HasRoom, BuildsTable, BuildsNone, ChangesNothing}
-use Rattle.built.specs.States.{HasStates, Declined, WithinLimits}
-use Rattle.built.specs.StateLaws.{build-declines, build-within, build-states, not-both, declined-one}
+use Rattle.built.specs.States.{heldStates, HasStates}
+use Rattle.built.specs.StateLaws.{build-limits, build-states}
 use Rattle.built.specs.CallLaws.{build-right, call-left, wider-built, wider-long}
 use Rattle.built.specs.CallTold.{call-built, call-refused, call-unbuilt, call-few-labels, call-few-targets, call-short-work}
 use Rattle.built.specs.Sample.{wTable, wSheet, w-built, w-written, w-read-back}
@@ -82,21 +83,10 @@ module _ (file labels targets work : List ℕ) where
 -- ---- limits
 
 module _ (rs : List Re) where
-  -- a build is refused only where a limit is passed: at the first text that does, by Long, States or Pool, tested in this order,
-  -- and its place is the state that this text leaves, 0 for vector 0
-  pub the-limits : (r : Refusal) → buildRules rs ≡ refuses r → Declined rs r
-  the-limits = build-declines rs
-
-  -- it succeeds only where none is
-  pub the-answer : (t : Table) → buildRules rs ≡ gives t → WithinLimits rs
-  the-answer = build-within rs
-
-  -- the two exclude each other, and there is one refusal at most: so texts alone fix whether rules are built, and else by which refusal not, and where
-  pub the-exactness : (r : Refusal) → Declined rs r → WithinLimits rs → ⊥
-  the-exactness = not-both rs
-
-  pub the-refusal : (r q : Refusal) → Declined rs r → Declined rs q → r ≡ q
-  the-refusal = declined-one rs
+  -- a build is refused exactly where a limit is passed, by the first text that passes one: Long, States or Pool, tested in this order, by row and place.
+  -- The place is the number of the state that this text leaves, 0 for vector 0; and it succeeds exactly where no text passes a limit
+  pub the-limits : Limits rs (heldStates rs) (rowOf (buildRules rs))
+  the-limits = build-limits rs
 
   -- the numbers of states and terms that are allowed
   pub the-allowed : buildRules rs ≡ buildRulesTo 255 2048 rs
