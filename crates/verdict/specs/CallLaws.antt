@@ -30,16 +30,17 @@ use Rattle.vector.specs.Layout.{workLength}
 use Rattle.walk.specs.Texts.{NotLater}
 use Rattle.walk.specs.Texts.NotLater.{equal, sooner}
 use Rattle.walk.specs.TextLaws.{sooner-self, sooner-trans}
+use Rattle.walk.specs.Passing.{WithinLimits, Limits}
+use Rattle.walk.specs.PassingLaws.{no-row}
 use Rattle.built.specs.Calls.{buildBook, filledBy, Building, buildOf}
 use Rattle.built.specs.Main.{the-build, the-call}
 use Rattle.verdict.specs.Compare.{Verdict}
 use Rattle.verdict.specs.Compare.Verdict.{Same, Differs}
 use Rattle.verdict.specs.Calls.{Told, Comparison, compareRead, compareBook, answeredIn, compareOf}
 use Rattle.verdict.specs.Calls.Told.{same, differs}
-use Rattle.verdict.specs.Demand.{AgreeOn, Differ, WithinLimits, Limits}
+use Rattle.verdict.specs.Demand.{AgreeOn, Differ, heldPairs}
 use Rattle.verdict.specs.Called.{Roomy, Short, Refuses, Shows, Answered, OneText}
-use Rattle.verdict.specs.LimitLaws.{no-row}
-use Rattle.verdict.specs.VerdictLaws.{same-exactly, shown-differs, answers-within, limits-at, own-table}
+use Rattle.verdict.specs.VerdictLaws.{same-exactly, shown-differs, limits-at, own-table}
 
 -- ---- one text is shown
 
@@ -91,21 +92,24 @@ module _ (file : List ℕ) (b : Book) (after : ℕ) (t : Table) (read : readBook
         rest = drop-at text (replicate (length area - length text) 0) (length text) refl;
       }
 
+  limits-of : (o : Outcome Verdict) → compareBook file t ≡ o → Limits rs (heldPairs rs t) (rowOf o)
+  limits-of o e = subst (λ (o : Outcome Verdict). Limits rs (heldPairs rs t) (rowOf o)) e (limits-at file b after t read)
+
   answers-in : (o : Outcome Verdict) → compareBook file t ≡ o → Answered rs t area work (answeredIn area work o)
   answers-in (gives Same) e =
-      let within = answers-within file b after t read Same e in
+      let limits = limits-of (gives Same) e in
       let alike = same-exactly file b after t read Same e .0 refl in
       record {
-        is-same = (λ d. (within, alike), λ d. refl);
+        is-same = (λ d. (limits .none .0 refl, alike), λ d. refl);
         same-text = λ d. refl;
         differs-text = λ n x y d. absurd (not-same d);
         is-differs = λ text x y w d. absurd (d .cuts-differ (alike text (d .is-text)));
-        limits = subst (λ (o : Outcome Verdict). Limits rs t (rowOf o)) e (limits-at file b after t read);
+        limits = limits;
         refused-text = λ r d. refl;
         work-blank = refl;
       }
   answers-in (gives (Differs u p q)) e =
-      let within = answers-within file b after t read (Differs u p q) e in
+      let limits = limits-of (gives (Differs u p q)) e in
       let shown = shown-differs file b after t read u p q e in
       record {
         is-same = (λ d. absurd (not-same (sym d)), λ d. absurd (shown .cuts-differ (d .1 u (shown .is-text))));
@@ -114,13 +118,13 @@ module _ (file : List ℕ) (b : Book) (after : ℕ) (t : Table) (read : readBook
         is-differs = λ text x y w d.
             let o = text-one rs t u text p q x y shown d in
             λ i. gives (differs (length (o .one-text i)) (o .one-book i) (o .one-table i));
-        limits = subst (λ (o : Outcome Verdict). Limits rs t (rowOf o)) e (limits-at file b after t read);
+        limits = limits;
         refused-text = λ r d. absurd (not-told (sym d));
         work-blank = refl;
       }
   answers-in (refuses r) e =
-      let limits : Limits rs t (rowOf {A = Verdict} (refuses r)) = subst (λ (o : Outcome Verdict). Limits rs t (rowOf o)) e (limits-at file b after t read) in
-      let over : WithinLimits rs t → ⊥ = λ w. no-row (sym (limits .none .1 w)) in
+      let limits = limits-of (refuses r) e in
+      let over : WithinLimits rs (heldPairs rs t) → ⊥ = λ w. no-row (sym (limits .none .1 w)) in
       record {
         is-same = (λ d. absurd (not-told d), λ d. absurd (over (d .0)));
         same-text = λ d. absurd (not-told d);

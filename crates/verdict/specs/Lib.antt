@@ -7,8 +7,6 @@ pub mod Called
 pub mod NumberLaws
 pub mod CompareLaws
 pub mod PairLaws
-pub mod DeclineLaws
-pub mod LimitLaws
 pub mod CutsAlike
 pub mod OwnSheet
 pub mod VerdictLaws

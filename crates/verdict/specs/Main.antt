@@ -1,5 +1,5 @@
 -- The theorems of comparing that are bought, together; each is proved in the file that its proof names, or computed here.
--- To believe them, read the definitions: Demand, Compare and Calls here, Texts and Walk in walk, and those that they stand on.
+-- To believe them, read the definitions: Demand, Compare and Calls here, Texts, Walk and Passing in walk, and those that they stand on.
 use Prim.Native.Nat.{ℕ, _≤_}
 use mathlib.Core.Path.{_≡_, refl}
 use mathlib.Core.Bool.{true, false}
@@ -20,15 +20,15 @@ use Rattle.book.specs.Reads.{readBook}
 use Rattle.book.specs.Expression.{meant}
 use Rattle.table.specs.Table.{Table, lent, wellFormed}
 use Rattle.cutting.specs.Cut.{Cut, Cuts, cutBy}
+use Rattle.walk.specs.Passing.{Limits}
 use Rattle.built.specs.Calls.{buildBook, buildOf}
 use Rattle.verdict.specs.declared.Compared.the-variants.{Same as Compared·same, Differs as Compared·differs, Refused as Compared·refused}
 use Rattle.verdict.specs.Compare.{Verdict, compareRulesTo, compareRules}
 use Rattle.verdict.specs.Compare.Verdict.{Same, Differs}
 use Rattle.verdict.specs.Calls.{compared, compareBook, Comparison, compareOf}
 use Rattle.verdict.specs.Calls.Told.{same, differs}
-use Rattle.verdict.specs.Demand.{CutAlike, WholeAlike, Differ, PairNumber, Limits}
+use Rattle.verdict.specs.Demand.{CutAlike, WholeAlike, Differ, heldPairs}
 use Rattle.verdict.specs.Called.{Roomy, Short, Refuses, Answered, OneText}
-use Rattle.verdict.specs.PairLaws.{number-one}
 use Rattle.verdict.specs.VerdictLaws.{book-cut, same-alike, same-exactly, shown-differs, limits-at, wider-answered, wider-long, own-table}
 use Rattle.verdict.specs.CallLaws.{text-one, short-room, ill-formed, book-refused, call-answered, own-call}
 use Rattle.verdict.specs.Sample.{answersOfW, statedOfW, worked-w, answers, stated, refusals, rows, worked-answers, worked-refusals}
@@ -52,12 +52,8 @@ module _ (file : List ℕ) (b : Book) (after : ℕ) (t : Table) (read : readBook
 
   -- it declines exactly where a limit is passed, by the first text that passes one: the row of its refusal and the place, which is the number of the
   -- pair that this text leaves; and it answers exactly where no text does
-  pub the-limits : Limits (meant b) t (rowOf (compareBook file t))
+  pub the-limits : Limits (meant b) (heldPairs (meant b) t) (rowOf (compareBook file t))
   the-limits = limits-at file b after t read
-
--- a pair has no two numbers
-pub the-number : (rs : List Re) (t : Table) (w : Text) (m n : ℕ) → PairNumber rs t w m → PairNumber rs t w n → m ≡ n
-the-number rs t w = number-one rs t
 
 -- wider limits take nothing back: what was answered with fewer pairs or terms allowed is answered with ours, and what was too long is so at the same place
 pub record Wider (most terms : ℕ) (t : Table) (rs : List Re) : Type 0 where

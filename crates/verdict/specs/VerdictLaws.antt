@@ -1,12 +1,11 @@
 -- The steps to the theorems of Main, from the laws of rules, labels, cuts and walks to what is answered of a book.
 -- A book that is read is compared as its rules are; what a walk comes to is what is answered.
 use Prim.Native.Nat.{ℕ, suc, _≤_}
-use mathlib.Core.Path.{_≡_, refl, sym, ap, _∙_}
+use mathlib.Core.Path.{_≡_, refl, sym, ap, subst, _∙_}
 use mathlib.Core.List.{List}
 use mathlib.Core.Logic.{_↔_}
 use native.Mathlib.Omega.{arith}
 use lib.ListN.{length}
-use Rattle.number.specs.declared.Refusal.{Refusal}
 use Rattle.number.specs.declared.Refusal.the-variants.{Long}
 use Rattle.number.specs.Limits.{pairs, pool}
 use Rattle.number.specs.Numbers.{Bytes}
@@ -25,19 +24,16 @@ use Rattle.table.specs.Table.{Table}
 use Rattle.cutting.specs.Steps.{labelOf}
 use Rattle.cutting.specs.Cut.{Cut, Cuts, cutBy}
 use Rattle.cutting.specs.CutLaws.{cut-is, cut-one}
-use Rattle.walk.specs.Walk.{Way, Walked, walkFrom}
-use Rattle.walk.specs.Walk.Walked.{halted, walked}
-use Rattle.walk.specs.KeepLaws.{WalkIs}
-use Rattle.walk.specs.HaltLaws.{Met, walk-met}
+use Rattle.walk.specs.Walk.{Way}
+use Rattle.walk.specs.Passing.{Limits}
 use Rattle.walk.specs.WiderLaws.{wider-gives, wider-refuses, long-stays}
 use Rattle.built.specs.Calls.{buildRead, buildBook}
 use Rattle.verdict.specs.Compare.{besideTo, beside, Verdict, comparedBy, compareRulesTo, compareRules}
 use Rattle.verdict.specs.Compare.Verdict.{Same, Differs}
 use Rattle.verdict.specs.Calls.{compareRead, compareBook}
-use Rattle.verdict.specs.Demand.{CutAlike, WholeAlike, AgreeOn, Differ, WithinLimits, Limits}
+use Rattle.verdict.specs.Demand.{CutAlike, WholeAlike, AgreeOn, Differ, heldPairs}
 use Rattle.verdict.specs.CompareLaws.{compare-means, compare-same}
-use Rattle.verdict.specs.DeclineLaws.{Declined, declined, answered}
-use Rattle.verdict.specs.LimitLaws.{limits-refused, limits-answered}
+use Rattle.verdict.specs.PairLaws.{compare-limits}
 use Rattle.verdict.specs.CutsAlike.{cuts-agree, cuts-label, shown-cuts, shown-first}
 use Rattle.verdict.specs.OwnSheet.{own-same}
 
@@ -81,28 +77,8 @@ module _ (file : List ℕ) (b : Book) (after : ℕ) (t : Table) (read : readBook
         first-label = λ w k l f. s .first w k l (λ d. f (agree-on (meant b) t w d));
       }
 
-  declines-at : (r : Refusal) → compareBook file t ≡ refuses r → Declined (meant b) t r
-  unfolding compareRules
-  declines-at r e = go (walkFrom (beside t) (meant b)) (walk-met (beside t) (meant b) (omega arith)) (rules-of (refuses r) e)
-    where
-      go : (w : Walked) → WalkIs (λ h. Unit {0}) (Met (beside t) (meant b)) w → comparedBy t w ≡ refuses r → Declined (meant b) t r
-      go (halted x) m d = let z : x ≡ r = cc in rw (← z) (declined (meant b) t m)
-      go (walked h js) m d = absurd (let z : _≡_ {A = ℕ} 0 1 = cc in omega arith)
-
-  pub answers-within : (v : Verdict) → compareBook file t ≡ gives v → WithinLimits (meant b) t
-  unfolding compareRules
-  answers-within v e = go (walkFrom (beside t) (meant b)) refl (rules-of (gives v) e)
-    where
-      go : (w : Walked) → walkFrom (beside t) (meant b) ≡ w → comparedBy t w ≡ gives v → WithinLimits (meant b) t
-      go (halted r) m d = absurd (let z : _≡_ {A = ℕ} 0 1 = cc in omega arith)
-      go (walked h js) m d = answered (meant b) t h js m
-
-  pub limits-at : Limits (meant b) t (rowOf (compareBook file t))
-  limits-at = go (compareBook file t) refl
-    where
-      go : (o : Outcome Verdict) → compareBook file t ≡ o → Limits (meant b) t (rowOf o)
-      go (gives v) e = limits-answered (meant b) t (answers-within v e)
-      go (refuses r) e = limits-refused (meant b) t r (declines-at r e)
+  pub limits-at : Limits (meant b) (heldPairs (meant b) t) (rowOf (compareBook file t))
+  limits-at = subst (λ (o : Outcome Verdict). Limits (meant b) (heldPairs (meant b) t) (rowOf o)) (sym (ap (compareRead t) read)) (compare-limits (meant b) t)
 
 -- ---- wider limits
 

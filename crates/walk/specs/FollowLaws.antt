@@ -10,6 +10,7 @@ use lib.ListN.{length}
 use Rattle.number.specs.declared.Refusal.{Refusal}
 use Rattle.number.specs.Limits.{bytes, pool}
 use Rattle.number.specs.Numbers.{Bytes}
+use Rattle.number.specs.MainLaws.{bytes-none}
 use Rattle.number.specs.Refused.{number, Row}
 use Rattle.number.specs.Refused.{place as placeOf}
 use Rattle.number.specs.Refused.Row.{noRow, row}
@@ -38,9 +39,6 @@ use Rattle.walk.specs.Passing.LongAt.{rules, step}
 use Rattle.walk.specs.Passing.Leaving.{nothing, goal-of}
 use Rattle.walk.specs.PassingLaws.{Passed, Declined, limits-refused, limits-answered}
 use Rattle.walk.specs.PassingLaws.Passed.{passed-long, passed-goals, passed-pool}
-
-pub bytes-none : Bytes []
-bytes-none i l = absurd (omega arith)
 
 pub none-sooner : {v : Text} → Sooner v [] → ⊥
 none-sooner s = let l = sooner-some s in omega arith

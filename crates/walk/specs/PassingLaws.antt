@@ -69,7 +69,7 @@ row-number e = cc
 row-place : {m n p q : ℕ} → row m p ≡ row n q → p ≡ q
 row-place e = cc
 
-no-row : {n p : ℕ} → noRow ≡ row n p → ⊥
+pub no-row : {n p : ℕ} → noRow ≡ row n p → ⊥
 no-row e = let z : _≡_ {A = ℕ} 0 1 = cc in omega arith
 
 -- ---- limits
