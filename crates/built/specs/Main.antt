@@ -85,7 +85,7 @@ module _ (file labels targets work : List ℕ) where
 module _ (rs : List Re) where
   -- a build is refused exactly where a limit is passed, by the first text that passes one: Long, States or Pool, tested in this order, by row and place.
   -- The place is the number of the state that this text leaves, 0 for vector 0; and it succeeds exactly where no text passes a limit
-  pub the-limits : Limits rs (heldStates rs) (rowOf (buildRules rs))
+  pub the-limits : Limits (heldStates rs) (rowOf (buildRules rs))
   the-limits = build-limits rs
 
   -- the numbers of states and terms that are allowed

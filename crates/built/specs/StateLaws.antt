@@ -28,7 +28,7 @@ beside-one [] = refl
 beside-one (c ∷ w) = beside-one w
 
 module _ (rs : List Re) where
-  counts : Counts alone rs (heldStates rs)
+  counts : Counts alone (heldStates rs)
   counts = record {
     from-few = omega arith;
     one-goal = λ v w l m s e. e;
@@ -38,7 +38,7 @@ module _ (rs : List Re) where
   }
 
   states-apart : (h : Held) → Good alone rs h → (j k : ℕ) → j < k → k < count h → vectorAfter rs (item h j .text) ≡ vectorAfter rs (item h k .text) → ⊥
-  states-apart h g j k = items-apart alone rs (heldStates rs) counts h (listed alone rs h g) j k (omega arith)
+  states-apart h g j k = items-apart alone (heldStates rs) counts h (listed alone rs h g) j k (omega arith)
 
   first-texts : (h : Held) → Good alone rs h → Earlier alone rs h → (n : ℕ) → n ≤ count h → Firsts (vectorAfter rs) (λ k. item h k .text) n
   first-texts h g e n l = record {
@@ -49,7 +49,7 @@ module _ (rs : List Re) where
         (j, o, sym (a .vector-is) ∙ g .led j (a .inside) .vector-is);
   }
 
-  follows : Follows alone rs (heldStates rs)
+  follows : Follows alone (heldStates rs)
   follows = record {
     counts = counts;
     some = omega arith;
@@ -60,9 +60,9 @@ module _ (rs : List Re) where
     numbered = λ h g e i l. record { text = λ k. item h k .text; firsts = first-texts h g e (suc i) l; is = refl };
   }
 
-  pub build-limits : Limits rs (heldStates rs) (rowOf (buildRules rs))
+  pub build-limits : Limits (heldStates rs) (rowOf (buildRules rs))
   unfolding buildRules
-  build-limits = walk-limits alone rs (heldStates rs) follows (λ w. rowOf (builtOf w)) (λ r. refl) (λ h js. refl)
+  build-limits = walk-limits alone (heldStates rs) follows (λ w. rowOf (builtOf w)) (λ r. refl) (λ h js. refl)
 
   -- ---- a table
 

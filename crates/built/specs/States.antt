@@ -13,7 +13,7 @@ use Rattle.walk.specs.Passing.{vectorAfter, Firsts, Holding}
 
 -- a build holds the vectors that texts lead to, the empty text too; row 8, States, is for one more than there may be
 abbrev pub heldStates : List Re → Holding (List Re)
-heldStates rs = record { goal = vectorAfter rs; from = 0; most = states; full = 8 }
+heldStates rs = record { rules = rs; goal = vectorAfter rs; from = 0; most = states; full = 8 }
 
 -- a table has just these states: each of its states has a first text, which leads there by the table, and so does every text to its vector's state
 pub record HasStates (rs : List Re) (t : Table) : Type 0 where

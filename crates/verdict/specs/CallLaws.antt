@@ -92,8 +92,8 @@ module _ (file : List ℕ) (b : Book) (after : ℕ) (t : Table) (read : readBook
         rest = drop-at text (replicate (length area - length text) 0) (length text) refl;
       }
 
-  limits-of : (o : Outcome Verdict) → compareBook file t ≡ o → Limits rs (heldPairs rs t) (rowOf o)
-  limits-of o e = subst (λ (o : Outcome Verdict). Limits rs (heldPairs rs t) (rowOf o)) e (limits-at file b after t read)
+  limits-of : (o : Outcome Verdict) → compareBook file t ≡ o → Limits (heldPairs rs t) (rowOf o)
+  limits-of o e = subst (λ (o : Outcome Verdict). Limits (heldPairs rs t) (rowOf o)) e (limits-at file b after t read)
 
   answers-in : (o : Outcome Verdict) → compareBook file t ≡ o → Answered rs t area work (answeredIn area work o)
   answers-in (gives Same) e =
@@ -124,7 +124,7 @@ module _ (file : List ℕ) (b : Book) (after : ℕ) (t : Table) (read : readBook
       }
   answers-in (refuses r) e =
       let limits = limits-of (refuses r) e in
-      let over : WithinLimits rs (heldPairs rs t) → ⊥ = λ w. no-row (sym (limits .none .1 w)) in
+      let over : WithinLimits (heldPairs rs t) → ⊥ = λ w. no-row (sym (limits .none .1 w)) in
       record {
         is-same = (λ d. absurd (not-told d), λ d. absurd (over (d .0)));
         same-text = λ d. absurd (not-told d);

@@ -41,13 +41,13 @@ pub record Shows (rs : List Re) (t : Table) (n x y : ℕ) (area text : List ℕ)
 -- whatever the call answers of a book that is read and a table, it is right, and what is right is answered
 pub record Answered (rs : List Re) (t : Table) (area work : List ℕ) (c : Comparison) : Type 0 where
   -- demand 3: Same exactly where every text is cut alike, if no limit is passed; the text area is then all 0
-  pub is-same : (c .answer ≡ gives same) ↔ (WithinLimits rs (heldPairs rs t) × ((text : Text) → Bytes text → WholeAlike rs t text))
+  pub is-same : (c .answer ≡ gives same) ↔ (WithinLimits (heldPairs rs t) × ((text : Text) → Bytes text → WholeAlike rs t text))
   pub same-text : c .answer ≡ gives same → c .text ≡ replicate (length area) 0
   -- Differs only with a text that shows it, and of every text that does
   pub differs-text : (n x y : ℕ) → c .answer ≡ gives (differs n x y) → Shows rs t n x y area (c .text)
-  pub is-differs : (text : Text) (x y : ℕ) → WithinLimits rs (heldPairs rs t) → Differ rs t text x y → c .answer ≡ gives (differs (length text) x y)
+  pub is-differs : (text : Text) (x y : ℕ) → WithinLimits (heldPairs rs t) → Differ rs t text x y → c .answer ≡ gives (differs (length text) x y)
   -- a refusal is that of a limit which the walk met
-  pub limits : Limits rs (heldPairs rs t) (rowOf (c .answer))
+  pub limits : Limits (heldPairs rs t) (rowOf (c .answer))
   pub refused-text : (r : Refusal) → c .answer ≡ refuses r → c .text ≡ replicate (length area) 0
   -- whatever it answers
   pub work-blank : c .work ≡ replicate (length work) 0

@@ -55,4 +55,4 @@ pairAfter rs t w = record { state = reach (stepIn t) 0 w; vector = vectorAfter r
 
 -- a comparison holds the pairs that non-empty texts lead to; row 12, Pairs, is for one more than there may be
 abbrev pub heldPairs : List Re → Table → Holding Both
-heldPairs rs t = record { goal = pairAfter rs t; from = 1; most = pairs; full = 12 }
+heldPairs rs t = record { rules = rs; goal = pairAfter rs t; from = 1; most = pairs; full = 12 }

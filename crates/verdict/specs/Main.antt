@@ -52,7 +52,7 @@ module _ (file : List ℕ) (b : Book) (after : ℕ) (t : Table) (read : readBook
 
   -- it declines exactly where a limit is passed, by the first text that passes one: the row of its refusal and the place, which is the number of the
   -- pair that this text leaves; and it answers exactly where no text does
-  pub the-limits : Limits (meant b) (heldPairs (meant b) t) (rowOf (compareBook file t))
+  pub the-limits : Limits (heldPairs (meant b) t) (rowOf (compareBook file t))
   the-limits = limits-at file b after t read
 
 -- wider limits take nothing back: what was answered with fewer pairs or terms allowed is answered with ours, and what was too long is so at the same place

@@ -37,7 +37,7 @@ module _ (rs : List Re) (t : Table) where
   one-vector : (v w : Text) → pairAfter rs t v ≡ pairAfter rs t w → vectorAfter rs v ≡ vectorAfter rs w
   one-vector v w e = ap (λ (x : Both). x .vector) e
 
-  counts : Counts (beside t) rs (heldPairs rs t)
+  counts : Counts (beside t) (heldPairs rs t)
   counts = record {
     from-few = omega arith;
     one-goal = λ v w l m s. one-pair v w (let z = sym (entered t v l) ∙ s ∙ entered t w m in omega arith);
@@ -58,13 +58,13 @@ module _ (rs : List Re) (t : Table) where
     -- past the entry an item stands beside the state that its text leads to
     item-sheet : (k : ℕ) → 0 < k → k < count h → item h k .sheet ≡ suc (reach (stepIn t) 0 (text-of k))
     item-sheet k o l =
-        g .led k l .sheet-is ∙ entered t (text-of k) (item-enough (beside t) rs (heldPairs rs t) counts h (listed (beside t) rs h g) k o l)
+        g .led k l .sheet-is ∙ entered t (text-of k) (item-enough (beside t) (heldPairs rs t) counts h (listed (beside t) rs h g) k o l)
 
     item-vector : (k : ℕ) → k < count h → item h k .vector ≡ vectorAfter rs (text-of k)
     item-vector k l = g .led k l .vector-is
 
     pairs-apart : (j k : ℕ) → 0 < j → j < k → k < count h → pairAfter rs t (text-of j) ≡ pairAfter rs t (text-of k) → ⊥
-    pairs-apart = items-apart (beside t) rs (heldPairs rs t) counts h (listed (beside t) rs h g)
+    pairs-apart = items-apart (beside t) (heldPairs rs t) counts h (listed (beside t) rs h g)
 
     -- a text that arrives at an item leads to the item's pair
     arrived-pair : (v : Text) (k : ℕ) → Arrived (beside t) rs h v k → pairAfter rs t v ≡ pairAfter rs t (text-of k)
@@ -266,7 +266,7 @@ module _ (rs : List Re) (t : Table) where
             ]
           ]
 
-  follows : Follows (beside t) rs (heldPairs rs t)
+  follows : Follows (beside t) (heldPairs rs t)
   follows = record {
     counts = counts;
     some = omega arith;
@@ -277,6 +277,6 @@ module _ (rs : List Re) (t : Table) where
     numbered = numbered;
   }
 
-  pub compare-limits : Limits rs (heldPairs rs t) (rowOf (compareRules t rs))
+  pub compare-limits : Limits (heldPairs rs t) (rowOf (compareRules t rs))
   unfolding compareRules
-  compare-limits = walk-limits (beside t) rs (heldPairs rs t) follows (λ w. rowOf (comparedBy t w)) (λ r. refl) (λ h js. refl)
+  compare-limits = walk-limits (beside t) (heldPairs rs t) follows (λ w. rowOf (comparedBy t w)) (λ r. refl) (λ h js. refl)

@@ -77,8 +77,8 @@ module _ (file : List ℕ) (b : Book) (after : ℕ) (t : Table) (read : readBook
         first-label = λ w k l f. s .first w k l (λ d. f (agree-on (meant b) t w d));
       }
 
-  pub limits-at : Limits (meant b) (heldPairs (meant b) t) (rowOf (compareBook file t))
-  limits-at = subst (λ (o : Outcome Verdict). Limits (meant b) (heldPairs (meant b) t) (rowOf o)) (sym (ap (compareRead t) read)) (compare-limits (meant b) t)
+  pub limits-at : Limits (heldPairs (meant b) t) (rowOf (compareBook file t))
+  limits-at = subst (λ (o : Outcome Verdict). Limits (heldPairs (meant b) t) (rowOf o)) (sym (ap (compareRead t) read)) (compare-limits (meant b) t)
 
 -- ---- wider limits
 

@@ -46,12 +46,12 @@ none-sooner s = let l = sooner-some s in omega arith
 -- ---- what a way must be
 
 -- texts that count lead to one goal exactly where the way leads to one item; and where the empty text does not count, no other text leads to its item
-pub record Counts {A : Type 0} (way : Way) (rs : List Re) (x : Holding A) : Type 0 where
+pub record Counts {A : Type 0} (way : Way) (x : Holding A) : Type 0 where
   pub from-few : x .from ≤ 1
   pub one-goal : (v w : Text) → x .from ≤ length v → x .from ≤ length w
-      → reach (way .go) 0 v ≡ reach (way .go) 0 w → vectorAfter rs v ≡ vectorAfter rs w → x .goal v ≡ x .goal w
+      → reach (way .go) 0 v ≡ reach (way .go) 0 w → vectorAfter (x .rules) v ≡ vectorAfter (x .rules) w → x .goal v ≡ x .goal w
   pub one-sheet : (v w : Text) → x .from ≤ length v → x .from ≤ length w → x .goal v ≡ x .goal w → reach (way .go) 0 v ≡ reach (way .go) 0 w
-  pub one-vector : (v w : Text) → x .goal v ≡ x .goal w → vectorAfter rs v ≡ vectorAfter rs w
+  pub one-vector : (v w : Text) → x .goal v ≡ x .goal w → vectorAfter (x .rules) v ≡ vectorAfter (x .rules) w
   pub entry : (w : Text) → 0 < x .from → x .from ≤ length w → reach (way .go) 0 w ≡ 0 → ⊥
 
 -- whatever is sooner than an item's text leads to an item before it
@@ -60,14 +60,14 @@ Earlier way rs h =
     (k : ℕ) → k < count h → (w : Text) → Bytes w → Sooner w (item h k .text) → (j : ℕ) × (j < k) × Arrived way rs h w j
 
 -- and its limits are those that are told, with the number of the goal as the number told for an item
-pub record Follows {A : Type 0} (way : Way) (rs : List Re) (x : Holding A) : Type 0 where
-  pub counts : Counts way rs x
+pub record Follows {A : Type 0} (way : Way) (x : Holding A) : Type 0 where
+  pub counts : Counts way x
   pub some : 0 < x .most
   pub limit-is : way .limit ≡ x .from + x .most
   pub terms-is : way .terms ≡ pool
   pub full-is : (place : ℕ) → row (number (way .full place)) (placeOf (way .full place)) ≡ row (x .full) place
   pub own-row : (x .full ≡ 6 → ⊥) × (x .full ≡ 7 → ⊥)
-  pub numbered : (h : Held) → Good way rs h → Earlier way rs h → (i : ℕ) → i < count h
+  pub numbered : (h : Held) → Good way (x .rules) h → Earlier way (x .rules) h → (i : ℕ) → i < count h
       → NumberOf (x .goal) (item h i .text) (way .told (h .items) i)
 
 -- ---- items as goals
@@ -102,7 +102,7 @@ module _ (way : Way) (rs : List Re) where
       let (j, a) = arrives k l w b s in
       (j, text-before way rs h g j k (a .inside) l (not-later-sooner (a .not-later) s), a)
 
-module _ {A : Type 0} (way : Way) (rs : List Re) (x : Holding A) (c : Counts way rs x) (h : Held) (ls : Listed way rs h) where
+module _ {A : Type 0} (way : Way) (x : Holding A) (c : Counts way x) (h : Held) (ls : Listed way (x .rules) h) where
   abbrev text-of : ℕ → Text
   text-of k = item h k .text
 
@@ -132,14 +132,14 @@ module _ {A : Type 0} (way : Way) (rs : List Re) (x : Holding A) (c : Counts way
   }
 
   -- texts that arrive lead to no more goals than there are items past the entry
-  goals-most : (last : Text) (n : ℕ) → GoalsTo x last n → ((w : Text) → Bytes w → NotLater w last → (k : ℕ) × Arrived way rs h w k)
+  goals-most : (last : Text) (n : ℕ) → GoalsTo x last n → ((w : Text) → Bytes w → NotLater w last → (k : ℕ) × Arrived way (x .rules) h w k)
       → x .from + n ≤ count h
   goals-most last n m arrives =
       omega (
         arith,
         ls .some,
         c .from-few,
-        at-most-by n (count h - x .from) (λ k j. Arrived way rs h (m .text k) (x .from + j))
+        at-most-by n (count h - x .from) (λ k j. Arrived way (x .rules) h (m .text k) (x .from + j))
             (λ k l. past (m .text k) (m .enough k l) (arrives (m .text k) (m .is-text k l) (m .soon k l)))
             (λ i k l o j a b. m .apart i k l o (c .one-goal (m .text i) (m .text k) (m .enough i (omega arith)) (m .enough k o)
                 (sym (a .sheet-is) ∙ b .sheet-is) (sym (a .vector-is) ∙ b .vector-is))),
@@ -148,7 +148,7 @@ module _ {A : Type 0} (way : Way) (rs : List Re) (x : Holding A) (c : Counts way
       first-sheet : item h 0 .sheet ≡ 0
       first-sheet = ls .led 0 (ls .some) .sheet-is ∙ ap (reach (way .go) 0) (ls .begins)
 
-      past : (w : Text) → x .from ≤ length w → (k : ℕ) × Arrived way rs h w k → (j : ℕ) × (j < count h - x .from) × Arrived way rs h w (x .from + j)
+      past : (w : Text) → x .from ≤ length w → (k : ℕ) × Arrived way (x .rules) h w k → (j : ℕ) × (j < count h - x .from) × Arrived way (x .rules) h w (x .from + j)
       past w l (k, a) =
           elim (decLt k (x .from)) [
             | yes m ↦
@@ -156,7 +156,7 @@ module _ {A : Type 0} (way : Way) (rs : List Re) (x : Holding A) (c : Counts way
                 absurd (c .entry w (omega arith) l (sym (a .sheet-is) ∙ ap (λ (j : ℕ). item h j .sheet) e ∙ first-sheet))
             | no f ↦
                 let e : k ≡ x .from + (k - x .from) = omega arith in
-                (k - x .from, omega (arith, a .inside), subst (Arrived way rs h w) e a)
+                (k - x .from, omega (arith, a .inside), subst (Arrived way (x .rules) h w) e a)
           ]
 
 -- ---- terms
@@ -198,37 +198,37 @@ first-short rs e (step w c b m f l) = snoc-some w c (sym f)
 
 -- ---- limits
 
-module _ {A : Type 0} (way : Way) (rs : List Re) (x : Holding A) (f : Follows way rs x) where
+module _ {A : Type 0} (way : Way) (x : Holding A) (f : Follows way x) where
   -- texts that are sooner than one arrive, by derivatives that fit: no limit is passed before it
-  module _ (h : Held) (g : Good way rs h) (p : Pooled (way .terms) h) (fit : normalised rs ≡ Terms (start rs)) (last : Text)
-      (arrives : (w : Text) → Bytes w → Sooner w last → (k : ℕ) × Arrived way rs h w k)
-      (fits : (v : Text) (d : ℕ) → Bytes v → d < bytes → Sooner (v ++ (d ∷ [])) last → Fits d (vectorAfter rs v)) where
-    not-long : (v : Text) → Sooner v last → LongAt rs v → ⊥
+  module _ (h : Held) (g : Good way (x .rules) h) (p : Pooled (way .terms) h) (fit : normalised (x .rules) ≡ Terms (start (x .rules))) (last : Text)
+      (arrives : (w : Text) → Bytes w → Sooner w last → (k : ℕ) × Arrived way (x .rules) h w k)
+      (fits : (v : Text) (d : ℕ) → Bytes v → d < bytes → Sooner (v ++ (d ∷ [])) last → Fits d (vectorAfter (x .rules) v)) where
+    not-long : (v : Text) → Sooner v last → LongAt (x .rules) v → ⊥
     not-long v s (rules e l) = no-terms (sym l ∙ fit)
     not-long v s (step w c b m e l) = no-terms (sym l ∙ fits w c b m (rw e at s))
 
-    unpassed : Unpassed rs x last
+    unpassed : Unpassed x last
     unpassed = record {
       none-long = λ v b. not-long v;
       goals-few = λ v n s m.
-          omega (arith, goals-most way rs x (f .counts) h (listed way rs h g) v n m (λ w b q. arrives w b (not-later-sooner q s)), g .few, f .limit-is);
-      terms-few = λ v terms s m. omega (arith, terms-most way rs h p v terms m (λ w b q. arrives w b (not-later-sooner q s)), f .terms-is);
+          omega (arith, goals-most way x (f .counts) h (listed way (x .rules) h g) v n m (λ w b q. arrives w b (not-later-sooner q s)), g .few, f .limit-is);
+      terms-few = λ v terms s m. omega (arith, terms-most way (x .rules) h p v terms m (λ w b q. arrives w b (not-later-sooner q s)), f .terms-is);
     }
 
   -- ---- a refusal
 
-  module _ {place : ℕ} (t : Tried way rs place) where
+  module _ {place : ℕ} (t : Tried way (x .rules) place) where
     abbrev left : Text
     left = item (t .h) (t .i) .text
 
     abbrev next : Text
     next = left ++ (t .c ∷ [])
 
-    left-led : Led way rs (item (t .h) (t .i))
+    left-led : Led way (x .rules) (item (t .h) (t .i))
     left-led = t .underway .good .led (t .i) (t .inside)
 
-    abbrev arrives : (w : Text) → Bytes w → Sooner w next → (k : ℕ) × Arrived way rs (t .h) w k
-    arrives = arrived-sooner way rs (t .i) (t .c) (t .h) (t .underway) (t .inside)
+    abbrev arrives : (w : Text) → Bytes w → Sooner w next → (k : ℕ) × Arrived way (x .rules) (t .h) w k
+    arrives = arrived-sooner way (x .rules) (t .i) (t .c) (t .h) (t .underway) (t .inside)
 
     abbrev ahead : (k : ℕ) → k < count (t .h) → Sooner (item (t .h) k .text) next
     ahead = t .underway .ahead (t .inside)
@@ -236,15 +236,15 @@ module _ {A : Type 0} (way : Way) (rs : List Re) (x : Holding A) (f : Follows wa
     left-number : NumberOf (x .goal) left place
     left-number =
         let g = t .underway .good in
-        let e = earlier way rs (t .h) g (λ k l w b s. arrives w b (sooner-trans s (ahead k l))) in
+        let e = earlier way (x .rules) (t .h) g (λ k l w b s. arrives w b (sooner-trans s (ahead k l))) in
         subst (NumberOf (x .goal) left) (sym (t .is-place)) (f .numbered (t .h) g e (t .i) (t .inside))
 
-    left-unpassed : Unpassed rs x next
+    left-unpassed : Unpassed x next
     left-unpassed =
         unpassed (t .h) (t .underway .good) (t .underway .pooled) (t .underway .rules-fit) next arrives
-        (fits-sooner way rs (t .i) (t .c) (t .h) (t .underway) (t .inside))
+        (fits-sooner way (x .rules) (t .i) (t .c) (t .h) (t .underway) (t .inside))
 
-    met : {n : ℕ} → Passed rs x next n → Declined rs x n place
+    met : {n : ℕ} → Passed x next n → Declined x n place
     met p = record {
       last = next;
       first = record {
@@ -259,25 +259,25 @@ module _ {A : Type 0} (way : Way) (rs : List Re) (x : Holding A) (f : Follows wa
       abbrev more : Held
       more = added (t .h) (z .y)
 
-      not-long-here : LongAt rs next → ⊥
+      not-long-here : LongAt (x .rules) next → ⊥
       not-long-here (rules e l) = snoc-some left (t .c) e
       not-long-here (step w c b m e l) =
           let d : left ≡ w = snoc-front left w (t .c) c e in
           let o : t .c ≡ c = snoc-last left w (t .c) c e in
-          no-terms (sym l ∙ ap (derived c) (ap (vectorAfter rs) (sym d) ∙ sym (left-led .vector-is))
+          no-terms (sym l ∙ ap (derived c) (ap (vectorAfter (x .rules)) (sym d) ∙ sym (left-led .vector-is))
           ∙ subst (λ (b : ℕ). Fits b (item (t .h) (t .i) .vector)) o (z .fits))
 
       soon : (k : ℕ) → k < count more → NotLater (item more k .text) next
       soon = each-added (t .h) (z .y) (λ k a. NotLater (a .text) next) (λ k l. sooner (ahead k l)) (equal (z .text-is))
 
       -- with the new item every text up to this one arrives
-      arrives-more : (w : Text) → Bytes w → NotLater w next → (k : ℕ) × Arrived way rs more w k
-      arrives-more w b (sooner s) = let (k, a) = arrives w b s in (k, arrived-added way rs (t .h) (z .y) w k a)
+      arrives-more : (w : Text) → Bytes w → NotLater w next → (k : ℕ) × Arrived way (x .rules) more w k
+      arrives-more w b (sooner s) = let (k, a) = arrives w b s in (k, arrived-added way (x .rules) (t .h) (z .y) w k a)
       arrives-more w b (equal e) =
-          (count (t .h), rw e (subst (λ (u : Text). Arrived way rs more u (count (t .h))) (z .text-is) (arrived-new way rs (t .h) (z .y) (z .led))))
+          (count (t .h), rw e (subst (λ (u : Text). Arrived way (x .rules) more u (count (t .h))) (z .text-is) (arrived-new way (x .rules) (t .h) (z .y) (z .led))))
 
   -- vector 0
-  first-met : {n : ℕ} → Passed rs x [] n → Declined rs x n 0
+  first-met : {n : ℕ} → Passed x [] n → Declined x n 0
   first-met p = record {
     last = [];
     first = record {
@@ -303,41 +303,41 @@ module _ {A : Type 0} (way : Way) (rs : List Re) (x : Holding A) (f : Follows wa
       none (equal e) = e
       none (sooner s) = absurd (none-sooner s)
 
-  pub refused : {r : Refusal} → Met way rs r → Limits rs x (row (number r) (placeOf r))
-  refused (start-long e) = limits-refused rs x (f .own-row) (first-met (passed-long (rules refl e)))
+  pub refused : {r : Refusal} → Met way (x .rules) r → Limits x (row (number r) (placeOf r))
+  refused (start-long e) = limits-refused x (f .own-row) (first-met (passed-long (rules refl e)))
   refused (start-over e l) =
-      limits-refused rs x (f .own-row) (first-met (passed-pool (first-short rs e) first-goals (withVector [] (start rs), first-terms rs, omega (arith, f .terms-is))))
+      limits-refused x (f .own-row) (first-met (passed-pool (first-short (x .rules) e) first-goals (withVector [] (start (x .rules)), first-terms (x .rules), omega (arith, f .terms-is))))
   refused (long place t e) =
-      limits-refused rs x (f .own-row)
+      limits-refused x (f .own-row)
       (met t (passed-long (step (left t) (t .c) (left-led t .text-is) (t .byte) refl (ap (derived (t .c)) (sym (left-led t .vector-is)) ∙ e))))
   refused (items-full place t z l) =
-      subst (Limits rs x) (sym (f .full-is place)) (limits-refused rs x (f .own-row) (met t (passed-goals (not-long-here t z)
-      (goals-to way rs x (f .counts) (more t z) (listed-beyond way rs t z) (suc (x .most)) (next t)
+      subst (Limits x) (sym (f .full-is place)) (limits-refused x (f .own-row) (met t (passed-goals (not-long-here t z)
+      (goals-to way x (f .counts) (more t z) (listed-beyond way (x .rules) t z) (suc (x .most)) (next t)
       (omega (arith, added-count (t .h) (z .y), f .limit-is)) (soon t z)))))
   refused (pool-full place t z m l) =
-      limits-refused rs x (f .own-row) (met t (passed-pool (not-long-here t z)
+      limits-refused x (f .own-row) (met t (passed-pool (not-long-here t z)
       (λ n p.
-      let most = goals-most way rs x (f .counts) (more t z) (listed-beyond way rs t z) (next t) n p (arrives-more t z) in
+      let most = goals-most way x (f .counts) (more t z) (listed-beyond way (x .rules) t z) (next t) n p (arrives-more t z) in
       omega (arith, most, added-count (t .h) (z .y), f .limit-is))
-      (more t z .pool, terms-to way rs t z, omega (arith, f .terms-is))))
+      (more t z .pool, terms-to way (x .rules) t z, omega (arith, f .terms-is))))
 
   -- ---- an answer
 
-  pub answered : (h : Held) (js : List ℕ) → walkFrom way rs ≡ walked h js → WithinLimits rs x
+  pub answered : (h : Held) (js : List ℕ) → walkFrom way (x .rules) ≡ walked h js → WithinLimits x
   answered h js e last =
-      let y = walk-explores way rs h js e in
-      unpassed h (y .good) (walk-pooled way rs h js e) (walk-fits way rs h js e) last
-      (λ w b s. (reach (target js) 0 w, arrived way rs h js y w b))
+      let y = walk-explores way (x .rules) h js e in
+      unpassed h (y .good) (walk-pooled way (x .rules) h js e) (walk-fits way (x .rules) h js e) last
+      (λ w b s. (reach (target js) 0 w, arrived way (x .rules) h js y w b))
       (λ v d b l s.
-      let a = arrived way rs h js y v b in
+      let a = arrived way (x .rules) h js y v b in
       subst (Fits d) (a .vector-is) (y .leads (reach (target js) 0 v) d (a .inside) l .fits))
 
   -- ---- so an answer that tells what the walk comes to has these limits
 
   pub walk-limits : (answer : Walked → Row) → ((r : Refusal) → answer (halted r) ≡ row (number r) (placeOf r))
-      → ((h : Held) (js : List ℕ) → answer (walked h js) ≡ noRow) → Limits rs x (answer (walkFrom way rs))
-  walk-limits answer halts ends = go (walkFrom way rs) refl (walk-met way rs (omega (arith, f .limit-is, f .some)))
+      → ((h : Held) (js : List ℕ) → answer (walked h js) ≡ noRow) → Limits x (answer (walkFrom way (x .rules)))
+  walk-limits answer halts ends = go (walkFrom way (x .rules)) refl (walk-met way (x .rules) (omega (arith, f .limit-is, f .some)))
     where
-      go : (w : Walked) → walkFrom way rs ≡ w → WalkIs (λ h. Unit {0}) (Met way rs) w → Limits rs x (answer w)
-      go (halted r) e m = subst (Limits rs x) (sym (halts r)) (refused m)
-      go (walked h js) e m = subst (Limits rs x) (sym (ends h js)) (limits-answered rs x (answered h js e))
+      go : (w : Walked) → walkFrom way (x .rules) ≡ w → WalkIs (λ h. Unit {0}) (Met way (x .rules)) w → Limits x (answer w)
+      go (halted r) e m = subst (Limits x) (sym (halts r)) (refused m)
+      go (walked h js) e m = subst (Limits x) (sym (ends h js)) (limits-answered x (answered h js e))

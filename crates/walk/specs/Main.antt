@@ -1,12 +1,13 @@
--- The theorems on the walk that are bought, together: building and comparing rest on them. Each is proved in BoughtLaws, or computed in Sample.
--- To believe them, read the definitions: Vectors, Parts, Walk, Texts and Bought here, and those that they stand on.
+-- The theorems on the walk that are bought, together: building and comparing rest on them. Each is proved in BoughtLaws or PassingLaws, or computed in Sample.
+-- To believe them, read the definitions: Vectors, Parts, Walk, Texts, Bought and Passing here, and those that they stand on.
 use Prim.Native.Nat.{ℕ, _<_}
 use mathlib.Core.Path.{_≡_}
 use mathlib.Core.List.{List, []}
 use mathlib.Core.Logic.{_↔_}
 use lib.ListN.{getD}
 use Rattle.number.specs.declared.Refusal.{Refusal}
-use Rattle.meaning.specs.Re.{Re}
+use Rattle.number.specs.Refused.{Row}
+use Rattle.meaning.specs.Re.{Re, Text}
 use Rattle.meaning.specs.Limited.{derivFit, normalFit}
 use Rattle.meaning.specs.Rules.{deriveAll, start}
 use Rattle.walk.specs.Vectors.{derived, normalised}
@@ -15,6 +16,8 @@ use Rattle.walk.specs.Walk.{none, Held, nothingHeld, Step, Way, step, be
 use Rattle.walk.specs.Walk.Walked.{halted, walked}
 use Rattle.walk.specs.Bought.{Ordered, Vectors, Pools, onBy, Goes, Begins, OwnRefusal, Stops, Finished, Halts}
 use Rattle.walk.specs.BoughtLaws.{ordered, derived-vectors, normalised-vectors, pools, step-goes, begin-goes, step-stops, begin-stops, walk-finished, walk-halts}
+use Rattle.walk.specs.Passing.{NumberOf, Holding, Limits}
+use Rattle.walk.specs.PassingLaws.{number-one, limits-one}
 use Rattle.walk.specs.Sample.{pooled, stated, worked-pools}
 
 -- of two different texts one comes sooner: the shorter, or of one length the one with the lower byte where they first differ
@@ -58,6 +61,16 @@ the-walk = walk-finished
 -- a walk that is refused is so by the first step that is, with that step's refusal
 pub the-halt : (way : Way) (rs : List Re) → 0 < way .limit → (r : Refusal) → walkFrom way rs ≡ halted r → Halts way rs r
 the-halt = walk-halts
+
+-- ---- limits, told of texts alone: building and comparing say so of their answers
+
+-- what a text leads to has no two numbers
+pub the-number : {A : Type 0} (goal : Text → A) (w : Text) (m n : ℕ) → NumberOf goal w m → NumberOf goal w n → m ≡ n
+the-number = number-one
+
+-- texts alone fix whether there is a refusal, by which row and at which place: no two answers have the limits that they tell
+pub the-one-row : {A : Type 0} (x : Holding A) (a b : Row) → Limits x a → Limits x b → a ≡ b
+the-one-row = limits-one
 
 -- computed by the checker: the pools of W's vector 0, and of terms that share parts
 pub the-worked-pools : pooled ≡ stated

@@ -55,8 +55,9 @@ pub record TermsTo (rs : List Re) (last : Text) (terms : List Re) : Type 0 where
 abbrev pub Crowded : List Re → Text → Type 0
 Crowded rs last = (terms : List Re) × TermsTo rs last terms × (pool < length terms)
 
--- what is held: what a text leads to, the least length of a text that counts, how many goals there may be, and the row of the refusal of one more
+-- what is held for rules: the goal that a text leads to, the least length of a text that counts, how many goals there may be, and the row of the refusal of one more
 pub record Holding (A : Type 0) : Type 0 where
+  pub rules : List Re
   pub goal : Text → A
   pub from : ℕ
   pub most : ℕ
@@ -72,12 +73,12 @@ pub record GoalsTo {A : Type 0} (x : Holding A) (last : Text) (n : ℕ) : Type 0
 
 -- ---- refusals
 
-module _ {A : Type 0} (rs : List Re) (x : Holding A) where
+module _ {A : Type 0} (x : Holding A) where
   -- no limit is passed before a text
   pub record Unpassed (last : Text) : Type 0 where
-    pub none-long : (v : Text) → Bytes v → Sooner v last → LongAt rs v → ⊥
+    pub none-long : (v : Text) → Bytes v → Sooner v last → LongAt (x .rules) v → ⊥
     pub goals-few : (v : Text) (n : ℕ) → Sooner v last → GoalsTo x v n → n ≤ x .most
-    pub terms-few : (v : Text) (terms : List Re) → Sooner v last → TermsTo rs v terms → length terms ≤ pool
+    pub terms-few : (v : Text) (terms : List Re) → Sooner v last → TermsTo (x .rules) v terms → length terms ≤ pool
 
   -- the first text at which a limit is passed, and the number of the goal that it leaves
   pub record FirstPast (last : Text) (place : ℕ) : Type 0 where
@@ -92,11 +93,11 @@ module _ {A : Type 0} (rs : List Re) (x : Holding A) where
   -- where a walk declines, by the row of its refusal and the place that goes with it; the tests come in the order of the fields.
   -- Row 6 is Long; then comes the row of one goal more than there may be; row 7 is Pool; there is no other, and no refusal exactly where no text passes a limit
   pub record Limits (answer : Row) : Type 0 where
-    pub long : (place : ℕ) → (answer ≡ row 6 place) ↔ ((last : Text) × FirstPast last place × LongAt rs last)
+    pub long : (place : ℕ) → (answer ≡ row 6 place) ↔ ((last : Text) × FirstPast last place × LongAt (x .rules) last)
     pub goals-full : (place : ℕ)
-        → (answer ≡ row (x .full) place) ↔ ((last : Text) × FirstPast last place × (LongAt rs last → ⊥) × GoalsTo x last (suc (x .most)))
+        → (answer ≡ row (x .full) place) ↔ ((last : Text) × FirstPast last place × (LongAt (x .rules) last → ⊥) × GoalsTo x last (suc (x .most)))
     pub pool-full : (place : ℕ)
         → (answer ≡ row 7 place)
-        ↔ ((last : Text) × FirstPast last place × (LongAt rs last → ⊥) × ((n : ℕ) → GoalsTo x last n → n ≤ x .most) × Crowded rs last)
+        ↔ ((last : Text) × FirstPast last place × (LongAt (x .rules) last → ⊥) × ((n : ℕ) → GoalsTo x last n → n ≤ x .most) × Crowded (x .rules) last)
     pub no-other : (n place : ℕ) → answer ≡ row n place → (n ≡ 6) ⊎ ((n ≡ x .full) ⊎ (n ≡ 7))
     pub none : (answer ≡ noRow) ↔ WithinLimits

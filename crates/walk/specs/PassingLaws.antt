@@ -2,7 +2,7 @@
 -- So texts alone fix the row of an answer and its place.
 use Prim.Native.Nat.{ℕ, suc, _<_, _≤_}
 use mathlib.Core.Path.{_≡_, refl, sym, ap, subst, _∙_}
-use mathlib.Core.List.{List, [], _∷_, _++_}
+use mathlib.Core.List.{[], _∷_, _++_}
 use mathlib.Core.Logic.{_⊎_, inl, inr}
 use native.Mathlib.Omega.{arith}
 use lib.ListN.{length}
@@ -10,7 +10,7 @@ use Rattle.number.specs.Limits.{pool}
 use Rattle.number.specs.Numbers.{Bytes}
 use Rattle.number.specs.Refused.{Row}
 use Rattle.number.specs.Refused.Row.{noRow, row}
-use Rattle.meaning.specs.Re.{Re, Text}
+use Rattle.meaning.specs.Re.{Text}
 use Rattle.walk.specs.CountLaws.{at-most-by}
 use Rattle.walk.specs.Texts.{Sooner, NotLater}
 use Rattle.walk.specs.Texts.Sooner.{shorter}
@@ -74,25 +74,25 @@ no-row e = let z : _≡_ {A = ℕ} 0 1 = cc in omega arith
 
 -- ---- limits
 
-module _ {A : Type 0} (rs : List Re) (x : Holding A) where
+module _ {A : Type 0} (x : Holding A) where
   -- a limit is passed at a text, in the order of the tests, with the row of its refusal
   pub data Passed (last : Text) : ℕ → Type 0 where
-    passed-long : LongAt rs last → Passed last 6
-    passed-goals : (LongAt rs last → ⊥) → GoalsTo x last (suc (x .most)) → Passed last (x .full)
-    passed-pool : (LongAt rs last → ⊥) → ((n : ℕ) → GoalsTo x last n → n ≤ x .most) → Crowded rs last → Passed last 7
+    passed-long : LongAt (x .rules) last → Passed last 6
+    passed-goals : (LongAt (x .rules) last → ⊥) → GoalsTo x last (suc (x .most)) → Passed last (x .full)
+    passed-pool : (LongAt (x .rules) last → ⊥) → ((n : ℕ) → GoalsTo x last n → n ≤ x .most) → Crowded (x .rules) last → Passed last 7
 
   -- what is met where a walk declines, by row and place
   pub record Declined (n place : ℕ) : Type 0 where
     pub last : Text
-    pub first : FirstPast rs x last place
+    pub first : FirstPast x last place
     pub passed : Passed last n
 
-  passes : {last v : Text} {n : ℕ} → Bytes v → Sooner v last → Unpassed rs x last → Passed v n → ⊥
+  passes : {last v : Text} {n : ℕ} → Bytes v → Sooner v last → Unpassed x last → Passed v n → ⊥
   passes {v = v} b s u (passed-long l) = u .none-long v b s l
   passes {v = v} b s u (passed-goals f m) = omega (arith, u .goals-few v (suc (x .most)) s m)
   passes {v = v} b s u (passed-pool f g (terms, m, l)) = omega (arith, u .terms-few v terms s m)
 
-  not-both : {n p : ℕ} → Declined n p → WithinLimits rs x → ⊥
+  not-both : {n p : ℕ} → Declined n p → WithinLimits x → ⊥
   not-both d w = passes (d .first .is-text) (later (d .last)) (w (d .last ++ (0 ∷ []))) (d .passed)
     where
       later : (u : Text) → Sooner u (u ++ (0 ∷ []))
@@ -124,14 +124,14 @@ module _ {A : Type 0} (rs : List Re) (x : Holding A) where
   -- ---- row by row
 
   abbrev LongFirst : ℕ → Type 0
-  LongFirst place = (last : Text) × FirstPast rs x last place × LongAt rs last
+  LongFirst place = (last : Text) × FirstPast x last place × LongAt (x .rules) last
 
   abbrev GoalsFirst : ℕ → Type 0
-  GoalsFirst place = (last : Text) × FirstPast rs x last place × (LongAt rs last → ⊥) × GoalsTo x last (suc (x .most))
+  GoalsFirst place = (last : Text) × FirstPast x last place × (LongAt (x .rules) last → ⊥) × GoalsTo x last (suc (x .most))
 
   abbrev PoolFirst : ℕ → Type 0
   PoolFirst place =
-      (last : Text) × FirstPast rs x last place × (LongAt rs last → ⊥) × ((n : ℕ) → GoalsTo x last n → n ≤ x .most) × Crowded rs last
+      (last : Text) × FirstPast x last place × (LongAt (x .rules) last → ⊥) × ((n : ℕ) → GoalsTo x last n → n ≤ x .most) × Crowded (x .rules) last
 
   long-met : (place : ℕ) → LongFirst place → Declined 6 place
   long-met place (last, f, l) = record { last = last; first = f; passed = passed-long l }
@@ -144,9 +144,9 @@ module _ {A : Type 0} (rs : List Re) (x : Holding A) where
 
   -- the row of one goal more is its own
   module _ (own : (x .full ≡ 6 → ⊥) × (x .full ≡ 7 → ⊥)) where
-    module _ (last : Text) (p : ℕ) (f : FirstPast rs x last p) where
-      moved-to : (q : ℕ) → p ≡ q → FirstPast rs x last q
-      moved-to q e = subst (FirstPast rs x last) e f
+    module _ (last : Text) (p : ℕ) (f : FirstPast x last p) where
+      moved-to : (q : ℕ) → p ≡ q → FirstPast x last q
+      moved-to q e = subst (FirstPast x last) e f
 
       long-by : {n : ℕ} (q : ℕ) → Passed last n → row n p ≡ row 6 q → LongFirst q
       long-by q (passed-long l) e = (last, moved-to q (row-place e), l)
@@ -168,7 +168,7 @@ module _ {A : Type 0} (rs : List Re) (x : Holding A) where
       one-of n q (passed-goals m y) e = inr (inl (sym (row-number e)))
       one-of n q (passed-pool m y l) e = inr (inr (sym (row-number e)))
 
-    pub limits-refused : {n p : ℕ} → Declined n p → Limits rs x (row n p)
+    pub limits-refused : {n p : ℕ} → Declined n p → Limits x (row n p)
     limits-refused {n} {p} d = record {
       long = λ q. (long-by (d .last) p (d .first) q (d .passed), λ y. declined-one d (long-met q y));
       goals-full = λ q. (goals-by (d .last) p (d .first) q (d .passed), λ y. declined-one d (goals-met q y));
@@ -177,7 +177,7 @@ module _ {A : Type 0} (rs : List Re) (x : Holding A) where
       none = (λ e. absurd (no-row (sym e)), λ w. absurd (not-both d w));
     }
 
-  pub limits-answered : WithinLimits rs x → Limits rs x noRow
+  pub limits-answered : WithinLimits x → Limits x noRow
   limits-answered w = record {
     long = λ q. (λ e. absurd (no-row e), λ y. absurd (not-both (long-met q y) w));
     goals-full = λ q. (λ e. absurd (no-row e), λ y. absurd (not-both (goals-met q y) w));
@@ -185,3 +185,16 @@ module _ {A : Type 0} (rs : List Re) (x : Holding A) where
     no-other = λ n q e. absurd (no-row e);
     none = (λ e. w, λ y. refl);
   }
+
+  -- no two answers have these limits
+  pub limits-one : (a b : Row) → Limits x a → Limits x b → a ≡ b
+  limits-one noRow b p q = sym (q .none .1 (p .none .0 refl))
+  limits-one (row n place) b p q = go (p .no-other n place refl)
+    where
+      row-at : (m : ℕ) → n ≡ m → row n place ≡ row m place
+      row-at m e = ap (λ (k : ℕ). row k place) e
+
+      go : (n ≡ 6) ⊎ ((n ≡ x .full) ⊎ (n ≡ 7)) → row n place ≡ b
+      go (inl e) = row-at 6 e ∙ sym (q .long place .1 (p .long place .0 (row-at 6 e)))
+      go (inr (inl e)) = row-at (x .full) e ∙ sym (q .goals-full place .1 (p .goals-full place .0 (row-at (x .full) e)))
+      go (inr (inr e)) = row-at 7 e ∙ sym (q .pool-full place .1 (p .pool-full place .0 (row-at 7 e)))
