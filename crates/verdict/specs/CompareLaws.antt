@@ -24,7 +24,7 @@ use Rattle.walk.specs.Walk.{Item, none, Held, Walked, walkFrom}
 use Rattle.walk.specs.Walk.Walked.{halted, walked}
 use Rattle.walk.specs.StepLaws.{item, count}
 use Rattle.walk.specs.WalkLaws.{target}
-use Rattle.walk.specs.Explored.{Explored, walk-explores, Arrived, arrived}
+use Rattle.walk.specs.Explored.{Explored, walk-explores, Arrived, first-arrived, arrived}
 use Rattle.walk.specs.Texts.{NotLater}
 use Rattle.walk.specs.Texts.NotLater.{equal, sooner}
 use Rattle.walk.specs.TextLaws.{not-later-trans, sooner-some}
@@ -109,7 +109,7 @@ module _ (rs : List Re) (t : Table) (h : Held) (js : List ℕ) (x : Explored (be
     not-later : NotLater (getD (found h) k none .text) w
 
   entry-sheet : item h 0 .sheet ≡ 0
-  entry-sheet = x .good .led 0 (x .good .some) .sheet-is ∙ ap (reach (beside t .go) 0) (x .good .begins)
+  entry-sheet = first-arrived (beside t) rs h (x .good) .sheet-is
 
   past-by : (w : Text) → 0 < length w → (j : ℕ) → Arrived (beside t) rs h w j → (k : ℕ) × Past w k
   past-by w l zero a = absurd (let z = sym entry-sheet ∙ a .sheet-is ∙ entered t w l in omega arith)

@@ -8,7 +8,6 @@ use native.Mathlib.Omega.{arith}
 use native.Mathlib.Decide.{decLt}
 use borrow.Author.Tests.{lt-ltb, le-ltb}
 use lib.Dec.{ltb}
-use lib.ListN.{length}
 use Rattle.number.specs.MainLaws.{bytes-none}
 use Rattle.number.specs.Refused.{rowOf}
 use Rattle.meaning.specs.Re.{Re, Text}
@@ -19,9 +18,10 @@ use Rattle.cutting.specs.Steps.{stepIn}
 use Rattle.walk.specs.Walk.{Held, numberIn}
 use Rattle.walk.specs.StepLaws.{item, count, Pair, number-most, number-pair, number-after}
 use Rattle.walk.specs.WalkLaws.{Good}
-use Rattle.walk.specs.Explored.{Arrived}
+use Rattle.walk.specs.Explored.{Arrived, first-arrived}
+use Rattle.walk.specs.TextLaws.{none-sooner}
 use Rattle.walk.specs.Passing.{vectorAfter, NumberOf, Limits}
-use Rattle.walk.specs.FollowLaws.{none-sooner, Counts, Earlier, Follows, listed, item-enough, items-apart, walk-limits}
+use Rattle.walk.specs.FollowLaws.{Counts, Earlier, Follows, listed, item-enough, items-apart, walk-limits}
 use Rattle.verdict.specs.Compare.{beside, startPair, toldBy, numberTold, comparedBy, compareRules}
 use Rattle.verdict.specs.CompareLaws.{entered}
 use Rattle.verdict.specs.Demand.{Both, pairAfter, heldPairs}
@@ -53,7 +53,7 @@ module _ (rs : List Re) (t : Table) where
     text-of k = item h k .text
 
     entry-sheet : item h 0 .sheet ≡ 0
-    entry-sheet = g .led 0 (g .some) .sheet-is ∙ ap (reach (beside t .go) 0) (g .begins)
+    entry-sheet = first-arrived (beside t) rs h g .sheet-is
 
     -- past the entry an item stands beside the state that its text leads to
     item-sheet : (k : ℕ) → 0 < k → k < count h → item h k .sheet ≡ suc (reach (stepIn t) 0 (text-of k))

@@ -28,7 +28,7 @@ use Rattle.walk.specs.Walk.{Way}
 use Rattle.walk.specs.Passing.{Limits}
 use Rattle.walk.specs.WiderLaws.{wider-gives, wider-refuses, long-stays}
 use Rattle.built.specs.Calls.{buildRead, buildBook}
-use Rattle.verdict.specs.Compare.{besideTo, beside, Verdict, comparedBy, compareRulesTo, compareRules}
+use Rattle.verdict.specs.Compare.{besideTo, Verdict, comparedBy, compareRulesTo, compareRules}
 use Rattle.verdict.specs.Compare.Verdict.{Same, Differs}
 use Rattle.verdict.specs.Calls.{compareRead, compareBook}
 use Rattle.verdict.specs.Demand.{CutAlike, WholeAlike, AgreeOn, Differ, heldPairs}

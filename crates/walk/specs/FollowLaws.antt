@@ -33,15 +33,12 @@ use Rattle.walk.specs.HaltLaws.{arrived-sooner, fits-sooner, text-before
 use Rattle.walk.specs.HaltLaws.Met.{start-long, start-over, long, items-full, pool-full}
 use Rattle.walk.specs.Texts.{Sooner, NotLater}
 use Rattle.walk.specs.Texts.NotLater.{equal, sooner}
-use Rattle.walk.specs.TextLaws.{snoc-some, snoc-front, snoc-last, sooner-some, sooner-trans, not-later-sooner}
+use Rattle.walk.specs.TextLaws.{snoc-some, snoc-front, snoc-last, sooner-some, none-sooner, sooner-trans, not-later-sooner}
 use Rattle.walk.specs.Passing.{vectorAfter, NumberOf, LongAt, TermsTo, Holding, GoalsTo, Unpassed, WithinLimits, Limits}
 use Rattle.walk.specs.Passing.LongAt.{rules, step}
 use Rattle.walk.specs.Passing.Leaving.{nothing, goal-of}
 use Rattle.walk.specs.PassingLaws.{Passed, Declined, limits-refused, limits-answered}
 use Rattle.walk.specs.PassingLaws.Passed.{passed-long, passed-goals, passed-pool}
-
-pub none-sooner : {v : Text} → Sooner v [] → ⊥
-none-sooner s = let l = sooner-some s in omega arith
 
 -- ---- what a way must be
 
@@ -95,6 +92,9 @@ module _ (way : Way) (rs : List Re) where
         once = pairs-added (t .h) (z .y) (λ a b. Pair a b → ⊥) (g .once) (λ j l. number-after (t .h .items) (z .y) (z .unmet) j l);
       }
 
+  first-sheet : (h : Held) → Listed way rs h → item h 0 .sheet ≡ 0
+  first-sheet h ls = ls .led 0 (ls .some) .sheet-is ∙ ap (reach (way .go) 0) (ls .begins)
+
   -- where all texts that are sooner than the items' arrive, they do so at items before
   pub earlier : (h : Held) → Good way rs h
       → ((k : ℕ) → k < count h → (w : Text) → Bytes w → Sooner w (item h k .text) → (j : ℕ) × Arrived way rs h w j) → Earlier way rs h
@@ -142,18 +142,15 @@ module _ {A : Type 0} (way : Way) (x : Holding A) (c : Counts way x) (h : Held) 
         at-most-by n (count h - x .from) (λ k j. Arrived way (x .rules) h (m .text k) (x .from + j))
             (λ k l. past (m .text k) (m .enough k l) (arrives (m .text k) (m .is-text k l) (m .soon k l)))
             (λ i k l o j a b. m .apart i k l o (c .one-goal (m .text i) (m .text k) (m .enough i (omega arith)) (m .enough k o)
-                (sym (a .sheet-is) ∙ b .sheet-is) (sym (a .vector-is) ∙ b .vector-is))),
+            (sym (a .sheet-is) ∙ b .sheet-is) (sym (a .vector-is) ∙ b .vector-is))),
       )
     where
-      first-sheet : item h 0 .sheet ≡ 0
-      first-sheet = ls .led 0 (ls .some) .sheet-is ∙ ap (reach (way .go) 0) (ls .begins)
-
       past : (w : Text) → x .from ≤ length w → (k : ℕ) × Arrived way (x .rules) h w k → (j : ℕ) × (j < count h - x .from) × Arrived way (x .rules) h w (x .from + j)
       past w l (k, a) =
           elim (decLt k (x .from)) [
             | yes m ↦
                 let e : k ≡ 0 = omega (arith, c .from-few) in
-                absurd (c .entry w (omega arith) l (sym (a .sheet-is) ∙ ap (λ (j : ℕ). item h j .sheet) e ∙ first-sheet))
+                absurd (c .entry w (omega arith) l (sym (a .sheet-is) ∙ ap (λ (j : ℕ). item h j .sheet) e ∙ first-sheet way (x .rules) h ls))
             | no f ↦
                 let e : k ≡ x .from + (k - x .from) = omega arith in
                 (k - x .from, omega (arith, a .inside), subst (Arrived way (x .rules) h w) e a)

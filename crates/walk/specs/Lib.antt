@@ -1,5 +1,5 @@
--- The walk over vectors, which building and comparing share. Definitions, in reading order: Vectors, Parts, Walk, Texts, Bought, Sample; the other files prove things of these.
--- Explored is what a finished walk has found, HaltLaws what a refused one met. Main gathers the theorems that are bought.
+-- The walk over vectors, which building and comparing share. Definitions, in reading order: Vectors, Parts, Walk, Texts, Bought, Passing, Sample; the other files prove things of these.
+-- Explored is what a finished walk has found, HaltLaws what a refused one met; by FollowLaws texts alone tell which it is. Main gathers the theorems that are bought.
 pub mod Vectors
 pub mod Parts
 pub mod Walk

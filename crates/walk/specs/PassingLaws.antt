@@ -5,8 +5,6 @@ use mathlib.Core.Path.{_≡_, refl, sym, ap, subst, _∙_}
 use mathlib.Core.List.{[], _∷_, _++_}
 use mathlib.Core.Logic.{_⊎_, inl, inr}
 use native.Mathlib.Omega.{arith}
-use lib.ListN.{length}
-use Rattle.number.specs.Limits.{pool}
 use Rattle.number.specs.Numbers.{Bytes}
 use Rattle.number.specs.Refused.{Row}
 use Rattle.number.specs.Refused.Row.{noRow, row}

@@ -105,6 +105,9 @@ pub sooner-some : {v w : Text} → Sooner v w → 0 < length w
 sooner-some (shorter h) = omega arith
 sooner-some (lower e l) = none-lower l
 
+pub none-sooner : {v : Text} → Sooner v [] → ⊥
+none-sooner s = let l = sooner-some s in omega arith
+
 -- of two texts, one is not later than the other
 data Which (v w : Text) : Type 0 where
   first : Lower v w → Which v w
