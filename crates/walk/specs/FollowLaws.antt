@@ -300,7 +300,7 @@ module _ {A : Type 0} (way : Way) (x : Holding A) (f : Follows way x) where
       none (equal e) = e
       none (sooner s) = absurd (none-sooner s)
 
-  pub refused : {r : Refusal} → Met way (x .rules) r → Limits x (row (number r) (placeOf r))
+  refused : {r : Refusal} → Met way (x .rules) r → Limits x (row (number r) (placeOf r))
   refused (start-long e) = limits-refused x (f .own-row) (first-met (passed-long (rules refl e)))
   refused (start-over e l) =
       limits-refused x (f .own-row) (first-met (passed-pool (first-short (x .rules) e) first-goals (withVector [] (start (x .rules)), first-terms (x .rules), omega (arith, f .terms-is))))
@@ -320,7 +320,7 @@ module _ {A : Type 0} (way : Way) (x : Holding A) (f : Follows way x) where
 
   -- ---- an answer
 
-  pub answered : (h : Held) (js : List ℕ) → walkFrom way (x .rules) ≡ walked h js → WithinLimits x
+  answered : (h : Held) (js : List ℕ) → walkFrom way (x .rules) ≡ walked h js → WithinLimits x
   answered h js e last =
       let y = walk-explores way (x .rules) h js e in
       unpassed h (y .good) (walk-pooled way (x .rules) h js e) (walk-fits way (x .rules) h js e) last
