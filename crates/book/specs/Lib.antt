@@ -1,4 +1,4 @@
--- Rule books. Definitions, in reading order: Book, Reads, Valid, Expression, Places, Calls, Sample, Answers; the other files prove things of these.
+-- Rule books. Definitions, in reading order: Book, Reads, Valid, Expression, Places, Calls, Sample, Seven, Refusals, Asked, Faulty, Postfix, Answers; the other files prove things of these.
 -- Main gathers the theorems that are bought.
 pub mod Book
 pub mod Reads
@@ -7,6 +7,11 @@ pub mod Expression
 pub mod Places
 pub mod Calls
 pub mod Sample
+pub mod Seven
+pub mod Refusals
+pub mod Asked
+pub mod Faulty
+pub mod Postfix
 pub mod Answers
 pub mod ReadLawsSteps
 pub mod ReadLawsWritten
@@ -17,4 +22,9 @@ pub mod AnswerLaws
 pub mod CodeLaws
 pub mod PlaceLaws
 pub mod ExpressionLaws
+pub mod PostfixLaws
+pub mod FaultyNumbers
+pub mod FaultyRead
+pub mod FaultyLaws
+pub mod CallLaws
 pub mod Main

@@ -1,27 +1,42 @@
 -- The theorems of this layer that are bought, together; each is proved in the file that its proof names.
--- To believe them, read only the definitions: Book, Reads, Valid, Expression, Sample and Places here, and those of number and meaning that they name.
+-- To believe them, read only the definitions: Book to Postfix in the order of Lib, and those of number and meaning that they name.
 use Prim.Native.Nat.{ℕ, _+_, _*_, _≤_, _<_}
 use mathlib.Core.Path.{_≡_}
-use mathlib.Core.List.{List, [], _∷_, _++_}
-use mathlib.Core.Logic.{_↔_}
+use mathlib.Core.List.{List, [], _∷_, _++_, map, flatten}
+use mathlib.Core.Logic.{_↔_, _⊎_}
 use lib.ListN.{length, drop}
 use Rattle.number.specs.declared.Refusal.{Refusal}
-use Rattle.number.specs.Refused.{number, place}
+use Rattle.number.specs.Refused.{number, place, rowOf, rowRead}
 use Rattle.number.specs.Refused.Answer.{got, refused}
 use Rattle.number.specs.Numbers.{Bytes}
-use Rattle.meaning.specs.Re.{size}
+use Rattle.meaning.specs.Re.{Re, Text, size}
+use Rattle.meaning.specs.Means.{Matches}
 use Rattle.meaning.specs.Sample.{W}
 use Rattle.book.specs.declared.Node.{Node}
+use Rattle.book.specs.declared.Node.the-variants.{Either}
+use Rattle.book.specs.declared.Checked.{Checked}
+use Rattle.book.specs.declared.Checked.the-variants.{Counts, Refused}
+use Rattle.book.specs.declared.RuleKind.{RuleKind}
+use Rattle.book.specs.declared.RuleKind.the-variants.{Kind, NoRule, Unknown}
 use Rattle.book.specs.Book.{Rule, Book, writeNode, writeNodes, writeRules, writeBook}
 use Rattle.book.specs.Reads.{readNode, readBook}
 use Rattle.book.specs.Valid.{Within, ValidRule, ValidBook}
-use Rattle.book.specs.Expression.{runNodes, expression, meant}
+use Rattle.book.specs.Expression.{runNodes, top, expression, meant}
 use Rattle.book.specs.Sample.{wBytes, wBook, w-length, w-reads, w-writes, w-means}
 use Rattle.book.specs.Places.{ruleOf, nodesAt}
+use Rattle.book.specs.Calls.{checked, checkOf, kindTold, kindOf}
+use Rattle.book.specs.Seven.{sevenBytes, sevenBook, sevenRules, seven-length, seven-reads, seven-writes, seven-means}
+use Rattle.book.specs.Refusals.{told, stated, lines, lines-told}
+use Rattle.book.specs.Asked.{replied, expected, asked, all-replied}
+use Rattle.book.specs.Faulty.{Faulty}
+use Rattle.book.specs.Postfix.{postfix, AllOfBytes, BookFor}
 use Rattle.book.specs.ReadLawsWritten.{node-written}
 use Rattle.book.specs.ReadLaws.{book-written, book-read, book-exact, book-one, book-valid, book-none, book-refused}
 use Rattle.book.specs.ReadLawsPlaces.{rule-in}
 use Rattle.book.specs.ExpressionLaws.{run-whole, expression-size}
+use Rattle.book.specs.PostfixLaws.{postfix-run, postfix-size, book-for, either-means}
+use Rattle.book.specs.FaultyLaws.{faulty-exact}
+use Rattle.book.specs.CallLaws.{check-read, kind-read, kind-past, check-refused, kind-refused, check-row, kind-row}
 
 -- what is written for a valid book is read as that book, to its end
 pub what-was-written : (b : Book) → ValidBook b → readBook (writeBook b) ≡ got b (length (writeBook b))
@@ -64,14 +79,81 @@ pub the-nodes : (file : List ℕ) (v : ℕ) (n : Node) (at : ℕ) (t : List ℕ)
     → readNode file v at ≡ got n (at + length (writeNode n))
 the-nodes = node-written
 
--- the sample book W of document 01
-pub record SampleBook : Type 0 where
-  pub long : length wBytes ≡ 36
-  pub reads : readBook wBytes ≡ got wBook 36
-  pub writes : writeBook wBook ≡ wBytes
-  pub valid : ValidBook wBook
-  pub means : meant wBook ≡ W
+-- a sample book, of so many bytes: these are read as it, it is written as them, it is valid, and its rules mean this row
+pub record SampleBook (n : ℕ) (bytes : List ℕ) (b : Book) (row : List Re) : Type 0 where
+  pub long : length bytes ≡ n
+  pub reads : readBook bytes ≡ got b n
+  pub writes : writeBook b ≡ bytes
+  pub valid : ValidBook b
+  pub means : meant b ≡ row
 
-pub the-sample-book : SampleBook
+-- the sample book W of document 01
+pub the-sample-book : SampleBook 36 wBytes wBook W
 the-sample-book =
     record { long = w-length; reads = w-reads; writes = w-writes; valid = book-valid wBytes wBook 36 w-reads .0; means = w-means }
+
+-- a second one, with all seven nodes and with numbers of two groups
+pub the-second-book : SampleBook 55 sevenBytes sevenBook sevenRules
+the-second-book =
+    record {
+      long = seven-length;
+      reads = seven-reads;
+      writes = seven-writes;
+      valid = book-valid sevenBytes sevenBook 55 seven-reads .0;
+      means = seven-means;
+    }
+
+-- an expression's postfix, a node for each of its tree's, leaves that expression on top of whatever stands there
+pub the-postfix : (r : Re) (stack : List Re) → (runNodes (postfix r) stack ≡ r ∷ stack) × (length (postfix r) ≡ size r)
+the-postfix r stack = (postfix-run r stack, postfix-size r)
+
+-- so any expressions are the rules of some book, if they are 1 to 32, their ranges are of bytes, and they have at most 512 nodes together
+pub the-expressions : (row : List Re) → 1 ≤ length row → length row ≤ 32 → AllOfBytes row → length (flatten (map postfix row)) ≤ 512
+    → BookFor row
+the-expressions = book-for
+
+-- an Either matches its letter and the capital, which stands 32 below, and no other text
+pub the-either : (x y : ℕ) (stack : List Re) (w : Text) → x ≡ y + 32
+    → ((w ≡ x ∷ []) ⊎ (w ≡ y ∷ [])) ↔ Matches (top (runNodes (Either x ∷ []) stack)) w
+the-either = either-means
+
+-- which refusal, and where, for every file: it is refused by r exactly where it is faulty so, told by what stands in it before the fault
+pub the-faults : (file : List ℕ) (r : Refusal) → Bytes file → (readBook file ≡ refused r) ↔ Faulty file r
+the-faults = faulty-exact
+
+-- and computed: the files of the list, each with the table's number and place, and books that are read
+pub the-refused-files : map told lines ≡ map stated lines
+the-refused-files = lines-told
+
+-- what the two calls answer on a file that is read as b, and that they answer nothing else: the rule count and all nodes together; the kind of
+-- the rule that has so many before it; and past the last rule that there is none
+pub record ReadCalls (file : List ℕ) (b : Book) : Type 0 where
+  pub check : (r : Checked) → (checked r ≡ checkOf file) ↔ (r ≡ Counts (length (b .rules)) (length (flatten (map (λ (q : Rule). q .nodes) (b .rules)))))
+  pub rule : (before behind : List Rule) (q : Rule) → b .rules ≡ before ++ (q ∷ behind) → (k : RuleKind)
+      → (kindTold k ≡ kindOf file (length before)) ↔ (k ≡ Kind (q .kind))
+  pub past : (i : ℕ) → length (b .rules) ≤ i → (k : RuleKind) → (kindTold k ≡ kindOf file i) ↔ (k ≡ NoRule)
+
+-- and on a file that is refused: that refusal, whatever rule is asked for
+pub record RefusedCalls (file : List ℕ) (q : Refusal) : Type 0 where
+  pub check : (r : Checked) → (checked r ≡ checkOf file) ↔ (r ≡ Refused q)
+  pub rule : (i : ℕ) (k : RuleKind) → (kindTold k ≡ kindOf file i) ↔ (k ≡ Unknown q)
+
+-- for every file; and both calls refuse by the number and at the place that reading the file comes to
+pub record BookCalls (file : List ℕ) : Type 0 where
+  pub read : (b : Book) (after : ℕ) → readBook file ≡ got b after → ReadCalls file b
+  pub refuse : (q : Refusal) → readBook file ≡ refused q → RefusedCalls file q
+  pub check-row : rowOf (checkOf file) ≡ rowRead (readBook file)
+  pub rule-row : (i : ℕ) → rowOf (kindOf file i) ≡ rowRead (readBook file)
+
+pub the-book-calls : (file : List ℕ) → BookCalls file
+the-book-calls file =
+    record {
+      read = λ b after e. record { check = check-read file b after e; rule = kind-read file b after e; past = kind-past file b after e };
+      refuse = λ q e. record { check = check-refused file q e; rule = kind-refused file q e };
+      check-row = check-row file;
+      rule-row = kind-row file;
+    }
+
+-- the same computed for the sample books, past their ends, and for W a byte short and a byte too long
+pub the-asked-books : map replied asked ≡ map expected asked
+the-asked-books = all-replied
