@@ -36,6 +36,11 @@ abbrev pub Proper : List Run → Type 0
 Proper [] = Unit {0}
 Proper (r ∷ rs) = (1 ≤ r .len) × TurnsFrom (r .target) rs × Proper rs
 
+-- each run leads to one of s states
+abbrev pub Below : ℕ → List Run → Type 0
+Below s [] = Unit {0}
+Below s (r ∷ rs) = (r .target < s) × Below s rs
+
 -- what comes next in a row is not the target t: the row ends, or another target stands there
 abbrev pub Ends : ℕ → List ℕ → Type 0
 Ends t row = 0 < length row → getD row 0 0 ≡ t → ⊥

@@ -1,29 +1,36 @@
 -- The theorems about sheets that are bought, together; each is proved in the file that its proof names.
--- To believe them, read only the definitions: Table, Sheet, Calls and Formed, with number's Limits, Refused, Numbers and Reading.
-use Prim.Native.Nat.{ℕ, suc, _*_, _≤_, _<_}
+-- To believe them, read only the definitions: Table, Sheet, Calls, Formed, Faults, Areas and Samples, with number's Limits, Refused, Numbers and Reading.
+use Prim.Native.Nat.{ℕ, suc, _≤_, _<_}
 use mathlib.Core.Path.{_≡_, refl}
-use mathlib.Core.Bool.{true, false}
-use mathlib.Core.List.{List, [], _∷_, _++_}
+use mathlib.Core.Bool.{true}
+use mathlib.Core.List.{List, _∷_, _++_, map}
 use mathlib.Core.Logic.{_↔_}
 use lib.ListN.{length, take, drop, replicate}
 use Rattle.number.specs.declared.Refusal.{Refusal}
-use Rattle.number.specs.declared.Refusal.the-variants.{Short, Range}
-use Rattle.number.specs.Limits.{states, bytes}
-use Rattle.number.specs.Numbers.{Bytes, due, several, readNumber, within, field, writeNumber}
+use Rattle.number.specs.declared.Refusal.the-variants.{Range}
+use Rattle.number.specs.Limits.{states, tableCells}
+use Rattle.number.specs.Numbers.{Bytes}
 use Rattle.number.specs.Refused.Answer.{got, refused}
 use Rattle.number.specs.Refused.Outcome.{gives}
 use Rattle.table.specs.Table.{Table, lent, wellFormed}
-use Rattle.table.specs.Sheet.{Run, readRuns, readStates, sheet, readSheetTo, readSheet, countTold}
-use Rattle.table.specs.Sheet.{joined, runsOf, writeRuns, writeRow, writeStates, writeSheet}
-use Rattle.table.specs.Calls.{padded, cramped, loadOf, writeOf}
-use Rattle.table.specs.Formed.{Formed, expanded, covered, Proper, Ends, Takes, longestSheet}
+use Rattle.table.specs.Sheet.{Run, readSheetTo, readSheet, countTold, runsOf, writeSheet}
+use Rattle.table.specs.Calls.{Filled, Output, loadOf, writeOf}
+use Rattle.table.specs.Formed.{Formed, expanded, covered, TurnsFrom, Proper, Ends, Takes, longestSheet}
+use Rattle.table.specs.Faults.{Fault}
+use Rattle.table.specs.Areas.{Answers, LeavesTable, LeavesZeros, LeavesAll, WritesFront, WritesNone}
 use Rattle.table.specs.SheetFormed.{well-formed-formed}
-use Rattle.table.specs.SheetRuns.{runs-expanded, runs-proper, runs-covered, runs-count, runs-first, expanded-runs}
+use Rattle.table.specs.SheetRuns.{runs-expanded, runs-proper, runs-covered, runs-count, runs-ends, runs-first, expanded-runs}
 use Rattle.table.specs.SheetLaws.{sheet-read-back, sheet-back}
 use Rattle.table.specs.SheetBytes.{sheet-bytes, sheet-length}
 use Rattle.table.specs.SheetLongest.{longest-taken}
 use Rattle.table.specs.SheetReaders.{untold-refused, read-alike, larger-refused, few-taken, many-refused, taken-few}
-use Rattle.table.specs.SheetCalls.{sheet-one, write-then-load, load-then-write, load-well-formed, write-fits}
+use Rattle.table.specs.SheetCalls.{sheet-one, load-then-write, load-well-formed, write-fits}
+use Rattle.table.specs.FaultLaws.{refused-faulty, fault-one}
+use Rattle.table.specs.AreaLaws.{load-read, load-refused, load-short-labels, load-short-targets, write-ill, write-short, write-whole}
+use Rattle.table.specs.AreaLaws.{leaves-one, zeros-one, front-one, write-then-load}
+use Rattle.table.specs.Samples.{oneState, oneBytes, twoStates, twoBytes, IsSheetOf, headGiven, headTold, headLines}
+use Rattle.table.specs.Samples.{rowGiven, rowTold, sheetLines, passGiven, passTold, memoryLines}
+use Rattle.table.specs.SampleLaws.{sheets-computed, heads-computed, rows-computed, tests-computed}
 
 -- the Boolean test of lent memory tells whether the table in it is formed
 pub the-test : (s : ℕ) (labels targets : List ℕ) → (wellFormed s labels targets ≡ true) ↔ Formed (lent s labels targets)
@@ -36,6 +43,7 @@ pub record RowRuns : Type 0 where
   pub only : (rs : List Run) → Proper rs → runsOf (expanded rs) ≡ rs
   pub covers : (row : List ℕ) → covered (runsOf row) ≡ length row
   pub count : (row : List ℕ) → length (runsOf row) ≤ length row
+  pub ends : (t : ℕ) (row : List ℕ) → Ends t row ↔ TurnsFrom t (runsOf row)
   pub first : (n t : ℕ) (rest : List ℕ) → Ends t rest
       → runsOf (replicate (suc n) t ++ rest) ≡ record { len = suc n; target = t } ∷ runsOf rest
 
@@ -47,6 +55,7 @@ the-runs =
       only = expanded-runs;
       covers = runs-covered;
       count = runs-count;
+      ends = runs-ends;
       first = runs-first;
     }
 
@@ -106,35 +115,83 @@ the-older-readers =
           (told .0 .written, told .0 .formed, told .1, told .0 .ended);
     }
 
--- heads of sheets with 128, 129, 255 and 256 states, by the reader that took 128 and by ours: past a count that is taken, a label is due
-pub the-heads :
-    (readSheetTo (1 ∷ 0x80 ∷ 0x01 ∷ []) 128 ≡ refused (Short 3)) × (readSheet (1 ∷ 0x80 ∷ 0x01 ∷ []) ≡ refused (Short 3))
-    × (readSheetTo (1 ∷ 0x81 ∷ 0x01 ∷ []) 128 ≡ refused (Range 1)) × (readSheet (1 ∷ 0x81 ∷ 0x01 ∷ []) ≡ refused (Short 3))
-    × (readSheetTo (1 ∷ 0xFF ∷ 0x01 ∷ []) 128 ≡ refused (Range 1)) × (readSheet (1 ∷ 0xFF ∷ 0x01 ∷ []) ≡ refused (Short 3))
-    × (readSheetTo (1 ∷ 0x80 ∷ 0x02 ∷ []) 128 ≡ refused (Range 1)) × (readSheet (1 ∷ 0x80 ∷ 0x02 ∷ []) ≡ refused (Range 1))
-unfolding sheet readStates field within readNumber due several
-the-heads = (refl, refl, refl, refl, refl, refl, refl, refl)
+-- the first numbers of a sheet, in eight files: what each tells as its state count, and how a reader of 128 states and ours refuse it
+pub the-heads : map headGiven headLines ≡ map headTold headLines
+the-heads = heads-computed
 
--- the bytes of one whole sheet, written out: state 0 leads by the byte 48 to state 1, which has label 1 and keeps to itself
-abbrev pub twoStates : Table
-twoStates = record { count = 2; labels = 0 ∷ 1 ∷ []; targets = replicate 48 0 ++ (1 ∷ replicate 207 0) ++ replicate 256 1 }
+-- a sheet of one state and one of two, byte by byte, written and read
+pub the-bytes : IsSheetOf oneState oneBytes × IsSheetOf twoStates twoBytes
+the-bytes = sheets-computed
 
-abbrev pub itsBytes : List ℕ
-itsBytes = 1 ∷ 2 ∷ 0 ∷ 3 ∷ 0x30 ∷ 0 ∷ 1 ∷ 1 ∷ 0xCF ∷ 0x01 ∷ 0 ∷ 1 ∷ 1 ∷ 0x80 ∷ 0x02 ∷ 1 ∷ []
+-- refusals are exact: a file is refused so exactly where it is faulty so, at the place that 01 has for the fault, and no file has two refusals
+pub record SheetFaults (file : List ℕ) : Type 0 where
+  pub exact : (r : Refusal) → Bytes file → (readSheet file ≡ refused r) ↔ Fault file r
+  pub one : (q r : Refusal) → Fault file q → Fault file r → q ≡ r
 
-pub the-bytes : (writeSheet twoStates ≡ itsBytes) × (readSheetTo itsBytes 128 ≡ got twoStates 16) × (readSheet itsBytes ≡ got twoStates 16)
-unfolding sheet readStates readRuns field within readNumber due several writeSheet writeStates writeRow writeRuns runsOf joined writeNumber
-the-bytes = (refl, refl, refl)
+pub the-faults : (file : List ℕ) → SheetFaults file
+the-faults file = record { exact = refused-faulty file; one = fault-one file }
+
+-- files that are no sheets, each with the number and the place of its refusal, and some that are: every field, every row, each order
+pub the-rows : map rowGiven sheetLines ≡ map rowTold sheetLines
+the-rows = rows-computed
+
+-- memory that holds a table and memory that does not, at each of its limits
+pub the-tests : map passGiven memoryLines ≡ map passTold memoryLines
+the-tests = tests-computed
+
+-- the call of load, whatever stands in the areas before. With room for 255 states a sheet that is read leaves its table and a refused one leaves 0;
+-- where either part of the table area is short, nothing changes, whatever the file
+pub record LoadCall (file labels targets : List ℕ) : Type 0 where
+  pub read : (t : Table) (after : ℕ) → Bytes file → readSheet file ≡ got t after → states ≤ length labels → tableCells ≤ length targets
+      → LeavesTable labels targets t (loadOf file labels targets)
+  pub refused : (r : Refusal) → readSheet file ≡ refused r → states ≤ length labels → tableCells ≤ length targets
+      → LeavesZeros labels targets r (loadOf file labels targets)
+  pub short-labels : length labels < states → LeavesAll labels targets (loadOf file labels targets)
+  pub short-targets : length targets < tableCells → LeavesAll labels targets (loadOf file labels targets)
+
+pub the-load-call : (file labels targets : List ℕ) → LoadCall file labels targets
+the-load-call file labels targets =
+    record {
+      read = load-read file labels targets;
+      refused = load-refused file labels targets;
+      short-labels = load-short-labels file labels targets;
+      short-targets = load-short-targets file labels targets;
+    }
+
+-- the call of write: memory whose table is not formed is refused first, by row 10, however short the output; then a short output, by row 11;
+-- else the sheet stands at the output's front
+pub record WriteCall (s : ℕ) (labels targets out : List ℕ) : Type 0 where
+  pub ill : (Formed (lent s labels targets) → ⊥) → WritesNone 10 out (writeOf s labels targets out)
+  pub short : Formed (lent s labels targets) → length out < length (writeSheet (lent s labels targets))
+      → WritesNone 11 out (writeOf s labels targets out)
+  pub written : Formed (lent s labels targets) → length (writeSheet (lent s labels targets)) ≤ length out
+      → WritesFront (writeSheet (lent s labels targets)) out (writeOf s labels targets out)
+
+pub the-write-call : (s : ℕ) (labels targets out : List ℕ) → WriteCall s labels targets out
+the-write-call s labels targets out =
+    record {
+      ill = write-ill s labels targets out;
+      short = write-short s labels targets out;
+      written = write-whole s labels targets out;
+    }
+
+-- what is said of these calls where they fill an area, clear it or write leaves nothing open: two outcomes of which it holds are one
+pub record OneOutcome : Type 0 where
+  pub table : (labels targets : List ℕ) (t : Table) (x y : Filled) → LeavesTable labels targets t x → LeavesTable labels targets t y → x ≡ y
+  pub zeros : (labels targets : List ℕ) (r : Refusal) (x y : Filled) → LeavesZeros labels targets r x → LeavesZeros labels targets r y → x ≡ y
+  pub front : (sheet out : List ℕ) (x y : Output) → WritesFront sheet out x → WritesFront sheet out y → x ≡ y
+
+pub one-outcome : OneOutcome
+one-outcome = record { table = leaves-one; zeros = zeros-one; front = front-one }
+
+-- what the code answers is the paper's: a number is given as it is, a refusal is its row of the table
+pub the-answers : Answers
+the-answers = record { counts = λ n. refl; written = λ n. refl; uncounted = λ r. refl; unwritten = λ r. refl }
 
 -- over the calls: a table that was written and loaded again is there, with 0 behind its cells
 pub write-and-load : (s : ℕ) (labels targets out : List ℕ) (n : ℕ) (labels′ targets′ : List ℕ)
-    → writeOf s labels targets out .answer ≡ gives n → cramped labels′ targets′ ≡ false
-    → loadOf (take n (writeOf s labels targets out .out)) labels′ targets′
-    ≡ record {
-      answer = gives s;
-      labels = padded (length labels′) (take s labels);
-      targets = padded (length targets′) (take (s * bytes) targets);
-    }
+    → writeOf s labels targets out .answer ≡ gives n → states ≤ length labels′ → tableCells ≤ length targets′
+    → LeavesTable labels′ targets′ (lent s labels targets) (loadOf (take n (writeOf s labels targets out .out)) labels′ targets′)
 write-and-load = write-then-load
 
 -- a file that was loaded and written again is there, and what stood behind it in the output stays

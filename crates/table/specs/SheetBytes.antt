@@ -12,9 +12,9 @@ use Rattle.number.specs.NumberLaws.{Written, write-way, width-is}
 use Rattle.number.specs.NumberLaws.Written.{one, two, three}
 use Rattle.table.specs.Table.{Table}
 use Rattle.table.specs.Sheet.{Run, runsOf, writeRuns, writeRow, writeStates, writeSheet}
-use Rattle.table.specs.Formed.{Formed, covered, Proper, longestState, longestSheet}
+use Rattle.table.specs.Formed.{Formed, covered, Proper, Below, longestState, longestSheet}
 use Rattle.table.specs.SheetFormed.{Each, each-none, each-cons, each-tail, each-append, each-take, each-drop}
-use Rattle.table.specs.SheetRuns.{Below, runs-proper, runs-count, runs-covered, runs-below}
+use Rattle.table.specs.SheetRuns.{runs-proper, runs-count, runs-covered, runs-below}
 
 -- ---- each is a byte
 

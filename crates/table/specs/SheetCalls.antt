@@ -3,7 +3,7 @@
 use Prim.Native.Nat.{ℕ, _-_, _*_, _≤_}
 use native.Mathlib.Omega.{arith}
 use mathlib.Core.Path.{_≡_, refl, sym, ap, _∙_}
-use mathlib.Core.Bool.{true, false}
+use mathlib.Core.Bool.{true}
 use mathlib.Core.List.{List, _++_}
 use mathlib.Core.Logic.{_↔_}
 use borrow.Author.Tests.{le-ltb}
@@ -19,7 +19,7 @@ use Rattle.number.specs.Refused.Outcome.{gives, refuses}
 use Rattle.number.specs.Numbers.{Bytes}
 use Rattle.table.specs.Table.{Table, lent, wellFormed}
 use Rattle.table.specs.Sheet.{readSheet, writeSheet}
-use Rattle.table.specs.Calls.{Filled, Output, cramped, padded, filledWith, loadRead, loadOf, writeOf}
+use Rattle.table.specs.Calls.{Filled, Output, cramped, padded, loadRead, loadOf, writeOf}
 use Rattle.table.specs.Formed.{Formed, longestSheet}
 use Rattle.table.specs.SheetFormed.{well-formed, formed-well}
 use Rattle.table.specs.SheetLaws.{SheetRead, sheet-read-back, sheet-back}
@@ -69,15 +69,6 @@ write-has-sheet s labels targets out n =
     let size : length (writeSheet t) ≡ n = cc in
     record { formed = well-formed s labels targets well; size = sym size; front = take-at (writeSheet t) _ n size }))
     (λ ill e. absurd (clash e))
-
--- the table comes back: its count, and its cells with 0 behind them
-pub write-then-load : (s : ℕ) (labels targets out : List ℕ) (n : ℕ) (labels′ targets′ : List ℕ)
-    → writeOf s labels targets out .answer ≡ gives n → cramped labels′ targets′ ≡ false
-    → loadOf (take n (writeOf s labels targets out .out)) labels′ targets′ ≡ filledWith labels′ targets′ (lent s labels targets)
-write-then-load s labels targets out n labels′ targets′ e wide =
-    let t : Table = lent s labels targets in
-    let told : HasSheet t n (writeOf s labels targets out .out) = write-has-sheet s labels targets out n e in
-    simp (wide, told .front, sheet-read-back t (told .formed))
 
 -- ---- load, then write
 

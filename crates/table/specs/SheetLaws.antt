@@ -20,9 +20,9 @@ use Rattle.number.specs.NumberLaws.{written-read, field-written, field-read}
 use Rattle.table.specs.Table.{Table}
 use Rattle.table.specs.Sheet.{Rows, Run, readRuns, readStates, sheet, readSheet}
 use Rattle.table.specs.Sheet.{runsOf, writeRuns, writeRow, writeStates, writeSheet}
-use Rattle.table.specs.Formed.{Formed, expanded, covered, TurnsFrom, Proper}
+use Rattle.table.specs.Formed.{Formed, expanded, covered, TurnsFrom, Proper, Below}
 use Rattle.table.specs.SheetFormed.{Each, each-none, each-cons, each-tail, each-append, each-take, each-drop}
-use Rattle.table.specs.SheetRuns.{Below, runs-expanded, runs-proper, runs-count, runs-covered, runs-below}
+use Rattle.table.specs.SheetRuns.{runs-expanded, runs-proper, runs-count, runs-covered, runs-below}
 use Rattle.table.specs.SheetRuns.{below-turns, below-expanded, covered-expanded, expanded-runs}
 
 -- ---- steps of a reader
@@ -61,25 +61,25 @@ pub record Stands (file : List ℕ) (at : ℕ) (w : List ℕ) (next : ℕ) : Typ
   pub after : next ≡ at + length w
 
 module _ (file : List ℕ) where
-  stands-none : (at : ℕ) → Stands file at [] at
+  pub stands-none : (at : ℕ) → Stands file at [] at
   stands-none at = record { here = refl; after = omega arith }
 
   -- one after another, and taken apart again
-  stands-both : (at mid next : ℕ) (v w : List ℕ) → Stands file at v mid → Stands file mid w next → Stands file at (v ++ w) next
+  pub stands-both : (at mid next : ℕ) (v w : List ℕ) → Stands file at v mid → Stands file mid w next → Stands file at (v ++ w) next
   stands-both at mid next v w p q =
       record {
         here = p .here ∙ ap (λ (t : List ℕ). v ++ t) (q .here) ∙ sym (append-assoc v w (drop next file));
         after = omega (arith, p .after, q .after, length-append v w);
       }
 
-  stands-back : (at next : ℕ) (v w : List ℕ) → Stands file at (v ++ w) next → Stands file (at + length v) w next
+  pub stands-back : (at next : ℕ) (v w : List ℕ) → Stands file at (v ++ w) next → Stands file (at + length v) w next
   stands-back at next v w p =
       record {
         here = drop-past file at v (w ++ drop next file) (p .here ∙ append-assoc v w (drop next file));
         after = omega (arith, p .after, length-append v w);
       }
 
-  stands-front : (at next : ℕ) (v w : List ℕ) → Stands file at (v ++ w) next → Stands file at v (at + length v)
+  pub stands-front : (at next : ℕ) (v w : List ℕ) → Stands file at (v ++ w) next → Stands file at v (at + length v)
   stands-front at next v w p =
       record {
         here = p .here ∙ append-assoc v w (drop next file) ∙ ap (λ (t : List ℕ). v ++ t) (sym (stands-back at next v w p .here));
@@ -96,7 +96,7 @@ module _ (file : List ℕ) where
   -- ---- what was written is read
 
   -- each reader takes what its writer wrote, up to the place after it
-  field-stands : (n lo hi at next : ℕ) → n < threeGroups → lo ≤ n → n ≤ hi → Stands file at (writeNumber n) next
+  pub field-stands : (n lo hi at next : ℕ) → n < threeGroups → lo ≤ n → n ≤ hi → Stands file at (writeNumber n) next
       → field file lo hi at ≡ got n next
   field-stands n lo hi at next small low high p =
       rw (p .after) (field-written n file lo hi at (drop next file) small low high (p .here))
@@ -124,7 +124,7 @@ module _ (file : List ℕ) where
       (stands-back mid next w (writeRuns rs) q) in
       simp (readLen, le-ltb bytes (sum + r .len) (omega arith), readTarget, ne-eqb (r .target) last turns, readRest)
 
-  row-stands : (s : ℕ) (row : List ℕ) (at next : ℕ) → s ≤ states → length row ≡ bytes → Each (λ t. t < s) row
+  pub row-stands : (s : ℕ) (row : List ℕ) (at next : ℕ) → s ≤ states → length row ≡ bytes → Each (λ t. t < s) row
       → Stands file at (writeRow row) next
       → let m : ℕ = length (runsOf row) in let mid : ℕ = at + length (writeNumber m) in
       (field file 1 bytes at ≡ got m mid) × (readRuns file s m 0 s mid ≡ got row next)
@@ -143,7 +143,7 @@ module _ (file : List ℕ) where
             (stands-back at next v w p)),
       )
 
-  states-stand : (s : ℕ) (labels targets : List ℕ) (at next : ℕ) → s ≤ states → length targets ≡ length labels * bytes
+  pub states-stand : (s : ℕ) (labels targets : List ℕ) (at next : ℕ) → s ≤ states → length targets ≡ length labels * bytes
       → Each (λ l. l ≤ rules) labels → Each (λ t. t < s) targets → Stands file at (writeStates labels targets) next
       → readStates file s (length labels) at ≡ got (record { labels = labels; targets = targets }) next
   unfolding readStates writeStates
@@ -204,10 +204,10 @@ pub record SheetRead (file : List ℕ) (t : Table) (after : ℕ) : Type 0 where
 
 module _ (file : List ℕ) where
   -- a field that was read
-  record FieldRead (lo hi at n next : ℕ) : Type 0 where
-    low : lo ≤ n
-    high : n ≤ hi
-    stands : Stands file at (writeNumber n) next
+  pub record FieldRead (lo hi at n next : ℕ) : Type 0 where
+    pub low : lo ≤ n
+    pub high : n ≤ hi
+    pub stands : Stands file at (writeNumber n) next
 
   -- the runs that a row was read from
   record RunsRead (s k sum last at : ℕ) (row : List ℕ) (next : ℕ) : Type 0 where
@@ -221,21 +221,21 @@ module _ (file : List ℕ) where
     stands : Stands file at (writeRuns runs) next
 
   -- the row of a state, from its number of runs on
-  record RowRead (s at : ℕ) (row : List ℕ) (next : ℕ) : Type 0 where
-    full : length row ≡ bytes
-    target : Each (λ t. t < s) row
-    stands : Stands file at (writeRow row) next
+  pub record RowRead (s at : ℕ) (row : List ℕ) (next : ℕ) : Type 0 where
+    pub full : length row ≡ bytes
+    pub target : Each (λ t. t < s) row
+    pub stands : Stands file at (writeRow row) next
 
   -- the states that were read
-  record StatesRead (s k at : ℕ) (rows : Rows) (next : ℕ) : Type 0 where
-    labelled : length (rows .labels) ≡ k
-    filled : length (rows .targets) ≡ k * bytes
-    label : Each (λ l. l ≤ rules) (rows .labels)
-    target : Each (λ t. t < s) (rows .targets)
-    stands : Stands file at (writeStates (rows .labels) (rows .targets)) next
+  pub record StatesRead (s k at : ℕ) (rows : Rows) (next : ℕ) : Type 0 where
+    pub labelled : length (rows .labels) ≡ k
+    pub filled : length (rows .targets) ≡ k * bytes
+    pub label : Each (λ l. l ≤ rules) (rows .labels)
+    pub target : Each (λ t. t < s) (rows .targets)
+    pub stands : Stands file at (writeStates (rows .labels) (rows .targets)) next
 
 module _ (file : List ℕ) (all : Bytes file) where
-  field-back : (lo hi at n next : ℕ) → field file lo hi at ≡ got n next → FieldRead file lo hi at n next
+  pub field-back : (lo hi at n next : ℕ) → field file lo hi at ≡ got n next → FieldRead file lo hi at n next
   field-back lo hi at n next e =
       let told : FieldAt file lo hi at n next = field-read file lo hi at n next e in
       let number : NumberAt file at n next = written-read file at n next all (told .read) in
@@ -283,7 +283,7 @@ module _ (file : List ℕ) (all : Bytes file) where
       }
 
   -- proper runs are the runs that would be written
-  row-back : (s at m mid : ℕ) (row : List ℕ) (next : ℕ) → 1 ≤ s → field file 1 bytes at ≡ got m mid
+  pub row-back : (s at m mid : ℕ) (row : List ℕ) (next : ℕ) → 1 ≤ s → field file 1 bytes at ≡ got m mid
       → readRuns file s m 0 s mid ≡ got row next → RowRead file s at row next
   unfolding writeRow
   row-back s at m mid row next some readCount readRow =
@@ -296,7 +296,7 @@ module _ (file : List ℕ) (all : Bytes file) where
         stands = rw (same, told .count) (stands-both file at mid next _ _ (number .stands) (told .stands));
       }
 
-  states-back : (s k at : ℕ) (rows : Rows) (next : ℕ) → 1 ≤ s → readStates file s k at ≡ got rows next → StatesRead file s k at rows next
+  pub states-back : (s k at : ℕ) (rows : Rows) (next : ℕ) → 1 ≤ s → readStates file s k at ≡ got rows next → StatesRead file s k at rows next
   unfolding readStates writeStates
   states-back s zero at rows next some e =
       let place : at ≡ next = cc in

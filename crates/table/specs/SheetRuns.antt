@@ -4,13 +4,14 @@ use Prim.Native.Nat.{ℕ, zero, suc, _+_, _≤_, _<_}
 use native.Mathlib.Omega.{arith}
 use mathlib.Core.Path.{_≡_, refl, sym, ap, _∙_}
 use mathlib.Core.List.{List, [], _∷_, _++_}
+use mathlib.Core.Logic.{_↔_}
 use borrow.Author.Tests.{eq-eqb, ne-eqb, eqb-true, eqb-false}
 use lib.Dec.{eqb}
 use lib.ListN.{length, getD, replicate, length-append, length-replicate}
 use Rattle.number.specs.Branch.{by-cond}
 use Rattle.table.specs.Sheet.{Run, joined, runsOf}
 use Rattle.table.specs.SheetFormed.{Each, each-none, each-tail, each-append, each-replicate}
-use Rattle.table.specs.Formed.{expanded, covered, TurnsFrom, Proper, Ends}
+use Rattle.table.specs.Formed.{expanded, covered, TurnsFrom, Proper, Below, Ends}
 
 -- ---- one byte more in front
 
@@ -82,11 +83,6 @@ runs-covered row = sym (covered-expanded (runsOf row)) ∙ ap length (runs-expan
 
 -- ---- targets of runs
 
--- each run leads to one of s states
-abbrev pub Below : ℕ → List Run → Type 0
-Below s [] = Unit {0}
-Below s (r ∷ rs) = (r .target < s) × Below s rs
-
 joined-below : (s t : ℕ) (rs : List Run) → t < s → Below s rs → Below s (joined t rs)
 unfolding joined
 joined-below s t [] h b = (h, tt)
@@ -153,6 +149,13 @@ expanded-ends t (r ∷ rs) p n = λ _. go (r .len) (p .0)
     go : (k : ℕ) → 1 ≤ k → getD (replicate k (r .target) ++ expanded rs) 0 0 ≡ t → ⊥
     go zero h = absurd (omega arith)
     go (suc k) h = n
+
+-- so a row goes on otherwise than with t just where its runs do
+pub runs-ends : (t : ℕ) (row : List ℕ) → Ends t row ↔ TurnsFrom t (runsOf row)
+runs-ends t row = (
+  runs-turn t row,
+  λ other. rw (runs-expanded row) at (expanded-ends t (runsOf row) (runs-proper row) other),
+)
 
 pub expanded-runs : (rs : List Run) → Proper rs → runsOf (expanded rs) ≡ rs
 unfolding expanded runsOf
