@@ -17,6 +17,7 @@ use Rattle.number.specs.Numbers.{Bytes, field, writeNumber}
 use Rattle.number.specs.Reading.{Reader, onward, answer}
 use Rattle.number.specs.Lists.{drop-one}
 use Rattle.number.specs.NumberLaws.{written-read, field-read}
+use Rattle.number.specs.FaultLaws.{refused-field}
 use Rattle.book.specs.declared.Node.{Node}
 use Rattle.book.specs.Book.{Rule, Book, takes, total, writeNode, writeNodes, writeRule, writeRules, writeBook}
 use Rattle.book.specs.Reads.{readAfter, readNode, readNodes, readRules, book, readBook}
@@ -24,10 +25,10 @@ use Rattle.book.specs.Valid.{Within, ValidRule, AllValid}
 use Rattle.book.specs.ReadLawsSteps.{clash, ByAnswer, Stands, stands-none, stands-more}
 use Rattle.book.specs.ReadLaws.{node-read, nodes-read, rules-read}
 use Rattle.book.specs.ReadLawsPlaces.{rules-append}
-use Rattle.book.specs.Faulty.{BadNumber, BadNode, Makes, toRule, Begun, toNode, Inside, Faulty}
-use Rattle.book.specs.Faulty.BadNode.{code, low, high, letter}
-use Rattle.book.specs.Faulty.Faulty.{at-version, at-rules, at-kind, at-nodes, too-many, at-node, lacks-terms, terms-left, spare}
-use Rattle.book.specs.FaultyNumbers.{field-bad}
+use Rattle.book.specs.Faults.{Makes, toRule, Begun, toNode, Inside, DueInNode, Due, Faulty}
+use Rattle.book.specs.Faults.DueInNode.{code, low, high, letter}
+use Rattle.book.specs.Faults.Due.{dueVersion, dueRules, dueKind, dueNodes, dueNode}
+use Rattle.book.specs.Faults.Faulty.{number, too-many, lacks-terms, terms-left, spare}
 
 -- ---- claims about refusals alone
 
@@ -53,9 +54,6 @@ not-one terms e h =
     let z : _≡_ {A = Bool} false true = ap not (sym (eq-eqb terms 1 h)) ∙ e in
     let y : _≡_ {A = ℕ} 0 1 = cc in
     omega arith
-
-place-as : {lo hi at to : ℕ} {left : List ℕ} {r : Refusal} → at ≡ to → BadNumber lo hi at left r → BadNumber lo hi to left r
-place-as {lo} {hi} {left = left} {r} e h = subst (λ (p : ℕ). BadNumber lo hi p left r) e h
 
 -- ---- one part more
 
@@ -94,36 +92,45 @@ module _ (file : List ℕ) (all : Bytes file) where
       let w = written-read file at n next all (field-read file lo hi at n next e .read) in
       record { stands = w .stands; after = w .after; inside = w .inside }
 
+  -- a number that is due, and is refused where it is
+  number-fault : (w : List ℕ) (lo hi at : ℕ) (r : Refusal) → Due w lo hi → Stands file 0 w at → field file lo hi at ≡ refused r → Faulty file r
+  number-fault w lo hi at r due s e =
+      let place : at ≡ length w = omega (arith, s .after) in
+      number w (drop at file) lo hi due (s .stands) (refused-field file lo hi (length w) r all (ap (field file lo hi) (sym place) ∙ e))
+
   -- ---- a node
 
-  after-faults : (c at next : ℕ) → c ≤ 6 → Stands file at (writeNumber c) next → Faults (BadNode at (drop at file)) (readAfter file c next)
-  unfolding readAfter writeNumber
-  after-faults zero at next h s = tt
-  after-faults (suc zero) at next h s = tt
-  after-faults (suc (suc zero)) at next h s =
-      on-faults (BadNode at (drop at file)) (field file 0 lastByte next) _
-      (λ r e. low (drop next file) (s .stands) (place-as (s .after) (field-bad file 0 lastByte next r all e)))
-      λ lo mid e.
-      let l = number-stands 0 lastByte next lo mid e in
-      on-faults (BadNode at (drop at file)) (field file lo lastByte mid) _
-      (λ r f. high lo (drop mid file) (s .stands ∙ ap (λ (t : List ℕ). 2 ∷ t) (l .stands)) (field-read file 0 lastByte next lo mid e .high)
-      (place-as (l .after ∙ ap (λ (p : ℕ). p + length (writeNumber lo)) (s .after)) (field-bad file lo lastByte mid r all f)))
-      λ hi end f. tt
-  after-faults (suc (suc (suc zero))) at next h s = tt
-  after-faults (suc (suc (suc (suc zero)))) at next h s = tt
-  after-faults (suc (suc (suc (suc (suc zero))))) at next h s = tt
-  after-faults (suc (suc (suc (suc (suc (suc zero)))))) at next h s =
-      on-faults (BadNode at (drop at file)) (field file firstLetter lastLetter next) _
-      (λ r e. letter (drop next file) (s .stands) (place-as (s .after) (field-bad file firstLetter lastLetter next r all e)))
-      λ x end e. tt
-  after-faults (suc (suc (suc (suc (suc (suc (suc c))))))) at next h s = absurd (omega arith)
+  -- what stops at a number of the node at a place
+  abbrev Stops : ℕ → Type 0
+  Stops at = (w : List ℕ) (lo hi mid : ℕ) (r : Refusal) → DueInNode w lo hi → Stands file at w mid → field file lo hi mid ≡ refused r → Faulty file r
 
-  node-faults : (v at : ℕ) → Faults (BadNode at (drop at file)) (readNode file v at)
+  after-faults : (c at next : ℕ) → c ≤ lastCode version → Stands file at (writeNumber c) next → Stops at → Faults (Faulty file) (readAfter file c next)
+  unfolding readAfter writeNumber
+  after-faults zero at next h s stop = tt
+  after-faults (suc zero) at next h s stop = tt
+  after-faults (suc (suc zero)) at next h s stop =
+      on-faults (Faulty file) (field file 0 lastByte next) _
+      (λ r e. stop (2 ∷ []) 0 lastByte next r low s e)
+      λ lo mid e.
+      on-faults (Faulty file) (field file lo lastByte mid) _
+      (λ r f. stop (2 ∷ writeNumber lo) lo lastByte mid r (high lo (field-read file 0 lastByte next lo mid e .high))
+      (stands-more file (2 ∷ []) (writeNumber lo) s (number-stands 0 lastByte next lo mid e)) f)
+      λ hi end f. tt
+  after-faults (suc (suc (suc zero))) at next h s stop = tt
+  after-faults (suc (suc (suc (suc zero)))) at next h s stop = tt
+  after-faults (suc (suc (suc (suc (suc zero))))) at next h s stop = tt
+  after-faults (suc (suc (suc (suc (suc (suc zero)))))) at next h s stop =
+      on-faults (Faulty file) (field file firstLetter lastLetter next) _
+      (λ r e. stop (6 ∷ []) firstLetter lastLetter next r letter s e)
+      λ x end e. tt
+  after-faults (suc (suc (suc (suc (suc (suc (suc c))))))) at next h s stop = absurd (omega arith)
+
+  node-faults : (v at : ℕ) → at ≤ length file → Stops at → Faults (Faulty file) (readNode file v at)
   unfolding readNode
-  node-faults v at =
-      on-faults (BadNode at (drop at file)) (field file 0 (lastCode v) at) _
-      (λ r e. code (field-bad file 0 (lastCode v) at r all e))
-      λ c next e. after-faults c at next (field-read file 0 (lastCode v) at c next e .high) (number-stands 0 (lastCode v) at c next e)
+  node-faults v at inside stop =
+      on-faults (Faulty file) (field file 0 (lastCode v) at) _
+      (λ r e. stop [] 0 (lastCode v) at r code (stands-none file at inside) e)
+      λ c next e. after-faults c at next (field-read file 0 (lastCode v) at c next e .high) (number-stands 0 (lastCode v) at c next e) stop
 
   -- ---- the nodes of a rule, behind those that are done
 
@@ -140,9 +147,9 @@ module _ (file : List ℕ) (all : Bytes file) where
   nodes-faults v n done kind m (suc k) ns terms at i many s =
       let there : length (toNode n done kind m ns) ≡ at = omega (arith, s .after) in
       on-faults (Faulty file) (readNode file v at) _
-      (λ r e.
-      at-node n done kind m ns terms (drop at file) i (omega arith) (s .stands)
-      (subst (λ (p : ℕ). BadNode p (drop at file) r) (sym there) (faults-of (BadNode at (drop at file)) (readNode file v at) r (node-faults v at) e)))
+      (λ r e. faults-of (Faulty file) (readNode file v at) r (node-faults v at (s .inside)
+      λ w lo hi mid q d p f. number-fault _ lo hi mid q (dueNode n done kind m ns terms w lo hi i (omega arith) d)
+      (stands-more file (toNode n done kind m ns) w s p) f) e)
       λ o mid e.
       let node = node-read file v at o mid all (s .inside) e in
       on-test (Faulty file) (ltb terms (takes o)) (Stack at) mid _
@@ -167,23 +174,22 @@ module _ (file : List ℕ) (all : Bytes file) where
 
   -- ---- the rules of a book, behind those that are done
 
-  rules-faults : (v n k : ℕ) (done : List Rule) (used at : ℕ) → 1 ≤ n → n ≤ 32 → AllValid done → used ≡ total done → used ≤ 512
+  rules-faults : (v n k : ℕ) (done : List Rule) (used at : ℕ) → 1 ≤ n → n ≤ rules → AllValid done → used ≡ total done → used ≤ nodes
       → length done + k ≡ n → Stands file 0 (toRule n done) at → Faults (Faulty file) (readRules file v k used at)
   unfolding readRules writeNodes writeRule
   rules-faults v n zero done used at some few valid sum small many s = tt
   rules-faults v n (suc k) done used at some few valid sum small many s =
       let begun : Begun n done = record { some = some; few = few; valid = valid; small = omega arith; less = omega arith } in
-      let there : at ≡ length (toRule n done) = omega (arith, s .after) in
       on-faults (Faulty file) (field file 0 kinds at) _
-      (λ r e. at-kind n done (drop at file) begun (s .stands) (place-as there (field-bad file 0 kinds at r all e)))
+      (λ r e. number-fault (toRule n done) 0 kinds at r (dueKind n done begun) s e)
       λ kind atCount e.
       let s1 = number-stands 0 kinds at kind atCount e in
-      let fits : kind ≤ 16383 = field-read file 0 kinds at kind atCount e .high in
-      let next : atCount ≡ length (toRule n done) + length (writeNumber kind) = omega (arith, s1 .after) in
+      let fits : kind ≤ kinds = field-read file 0 kinds at kind atCount e .high in
+      let next : atCount ≡ length (toRule n done) + length (writeNumber kind) = omega (arith, s .after, s1 .after) in
       let stood : file ≡ toRule n done ++ (writeNumber kind ++ drop atCount file) =
       s .stands ∙ ap (λ (x : List ℕ). toRule n done ++ x) (s1 .stands) in
       on-faults (Faulty file) (field file 1 nodes atCount) _
-      (λ r f. at-nodes n done kind (drop atCount file) begun fits stood (place-as next (field-bad file 1 nodes atCount r all f)))
+      (λ r f. number-fault _ 1 nodes atCount r (dueNodes n done kind begun fits) (stands-more file (toRule n done) (writeNumber kind) s s1) f)
       λ m first f.
       let s2 = number-stands 1 nodes atCount m first f in
       let count = field-read file 1 nodes atCount m first f in
@@ -193,7 +199,7 @@ module _ (file : List ℕ) (all : Bytes file) where
       (too-many n done kind m (drop first file) begun fits (count .low) (count .high) (omega (arith, ltb-true nodes (used + m) t))
       (stood ∙ ap (λ (x : List ℕ). toRule n done ++ (writeNumber kind ++ x)) (s2 .stands))))
       λ t.
-      let less : used + m ≤ 512 = ltb-false nodes (used + m) t in
+      let less : used + m ≤ nodes = ltb-false nodes (used + m) t in
       let inside : Inside n done kind m [] 0 =
       record { begun = begun; kind-fits = fits; some = count .low; small = omega arith; makes = refl } in
       let all-nodes = nodes-faults v n done kind m m [] 0 first inside (omega arith)
@@ -221,19 +227,19 @@ module _ (file : List ℕ) (all : Bytes file) where
   unfolding book writeRules writeBook total
   book-faults =
       on-faults (Faulty file) (field file version lastVersion 0) _
-      (λ r e. at-version (field-bad file version lastVersion 0 r all e))
+      (λ r e. number-fault [] version lastVersion 0 r dueVersion (stands-none file 0 (omega arith)) e)
       λ v atRules e.
       let known = field-read file version lastVersion 0 v atRules e in
-      let one : v ≡ 1 = omega (arith, known .low, known .high) in
-      let s1 : Stands file 0 (writeNumber 1) atRules =
+      let one : v ≡ version = omega (arith, known .low, known .high) in
+      let s1 : Stands file 0 (writeNumber version) atRules =
       subst (λ (x : ℕ). Stands file 0 (writeNumber x) atRules) one (number-stands version lastVersion 0 v atRules e) in
       on-faults (Faulty file) (field file 1 rules atRules) _
-      (λ r f. at-rules (drop atRules file) (s1 .stands) (place-as (omega (arith, s1 .after)) (field-bad file 1 rules atRules r all f)))
+      (λ r f. number-fault (writeNumber version) 1 rules atRules r dueRules s1 f)
       λ n first f.
       let count = field-read file 1 rules atRules n first f in
       let s2 = number-stands 1 rules atRules n first f in
       let all-rules = rules-faults v n n [] 0 first (count .low) (count .high) tt refl (omega arith) (omega arith)
-      (stands-more file (writeNumber 1) _ s1 (stands-more file (writeNumber n) [] s2 (stands-none file first (s2 .inside)))) in
+      (stands-more file (writeNumber version) _ s1 (stands-more file (writeNumber n) [] s2 (stands-none file first (s2 .inside)))) in
       on-faults (Faulty file) (readRules file v n 0 first) _
       (λ r g. faults-of (Faulty file) (readRules file v n 0 first) r all-rules g)
       λ rs last g.
