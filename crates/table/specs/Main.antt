@@ -1,6 +1,6 @@
 -- The theorems about sheets that are bought, together; each is proved in the file that its proof names.
 -- To believe them, read only the definitions: Table, Sheet, Calls, Formed, Faults, Areas and Samples, with number's Limits, Refused, Numbers, Faults and Reading.
-use Prim.Native.Nat.{ℕ, suc, _≤_, _<_}
+use Prim.Native.Nat.{ℕ, suc, _-_, _*_, _≤_, _<_}
 use mathlib.Core.Path.{_≡_, refl}
 use mathlib.Core.Bool.{true}
 use mathlib.Core.List.{List, _∷_, _++_, map}
@@ -18,7 +18,7 @@ use Rattle.table.specs.Calls.{Filled, Output, loadOf, writeOf}
 use Rattle.table.specs.Formed.{Formed, expanded, covered, TurnsFrom, Proper, Ends, Takes, longestSheet}
 use Rattle.table.specs.Faults.{Fault}
 use Rattle.table.specs.Areas.{Answers, LeavesTable, LeavesZeros, LeavesAll, WritesFront, WritesNone}
-use Rattle.table.specs.SheetFormed.{well-formed-formed}
+use Rattle.table.specs.SheetFormed.{well-formed-formed, full-well}
 use Rattle.table.specs.SheetRuns.{runs-expanded, runs-proper, runs-covered, runs-count, runs-ends, runs-first, expanded-runs}
 use Rattle.table.specs.SheetLaws.{sheet-read-back, sheet-back}
 use Rattle.table.specs.SheetBytes.{sheet-bytes, sheet-length}
@@ -134,6 +134,10 @@ the-faults file = record { exact = refused-faulty file; one = fault-one file }
 -- files that are no sheets, each with the number and the place of its refusal, and some that are: every field, every row, each order
 pub the-rows : map rowGiven sheetLines ≡ map rowTold sheetLines
 the-rows = rows-computed
+
+-- every count from 1 to 255 passes, with the largest label and the largest target everywhere
+pub the-full-tables : (s : ℕ) → 1 ≤ s → s ≤ 255 → wellFormed s (replicate s 32) (replicate (s * 256) (s - 1)) ≡ true
+the-full-tables = full-well
 
 -- memory that holds a table and memory that does not, at each of its limits
 pub the-tests : map passGiven memoryLines ≡ map passTold memoryLines

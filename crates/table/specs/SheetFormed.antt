@@ -1,6 +1,6 @@
 -- The Boolean test of lent memory says just that the table in it is formed.
 -- First the laws of a claim about each number of a list, as a list is cut and joined.
-use Prim.Native.Nat.{ℕ, zero, suc, _*_, _≤_, _<_}
+use Prim.Native.Nat.{ℕ, zero, suc, _-_, _*_, _≤_, _<_}
 use native.Mathlib.Omega.{arith}
 use mathlib.Core.Path.{_≡_, refl}
 use mathlib.Core.Bool.{Bool, true, and-eq-true-iff}
@@ -95,3 +95,17 @@ formed-well s labels targets f =
 
 pub well-formed-formed : (s : ℕ) (labels targets : List ℕ) → (wellFormed s labels targets ≡ true) ↔ Formed (lent s labels targets)
 well-formed-formed s labels targets = (well-formed s labels targets, formed-well s labels targets)
+
+-- ---- the fullest tables
+
+pub full-well : (s : ℕ) → 1 ≤ s → s ≤ 255 → wellFormed s (replicate s 32) (replicate (s * 256) (s - 1)) ≡ true
+full-well s some most =
+    formed-well s (replicate s 32) (replicate (s * 256) (s - 1))
+    (record {
+      some = some;
+      most = most;
+      labelled = length-take-le s (replicate s 32) (omega (arith, length-replicate {A = ℕ} s 32));
+      filled = length-take-le (s * bytes) (replicate (s * 256) (s - 1)) (omega (arith, length-replicate (s * 256) (s - 1)));
+      label = each-take (λ l. l ≤ rules) s (replicate s 32) (each-replicate (λ l. l ≤ rules) s 32 (omega arith));
+      target = each-take (λ t. t < s) (s * bytes) (replicate (s * 256) (s - 1)) (each-replicate (λ t. t < s) (s * 256) (s - 1) (omega arith));
+    })
