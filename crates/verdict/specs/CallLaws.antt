@@ -8,7 +8,7 @@ use mathlib.Core.Logic.{inl, inr}
 use native.Mathlib.Omega.{arith}
 use borrow.Author.Tests.{lt-ltb, le-ltb}
 use lib.Dec.{ltb}
-use lib.ListN.{length, take, replicate}
+use lib.ListN.{length, take, replicate, length-append, length-replicate}
 use lib.Seq.{take-at, drop-at}
 use Rattle.number.specs.declared.Refusal.{Refusal}
 use Rattle.number.specs.declared.Refusal.the-variants.{Loaded, Room}
@@ -54,7 +54,9 @@ module _ (rs : List Re) (t : Table) where
 
   pub text-one : (u v : Text) (x y z w : ℕ) → Differ rs t u x y → Differ rs t v z w → OneText u v x y z w
   text-one u v x y z w d e =
-      let same-text : u ≡ v = both-ways u v (d .first-label v (e .is-text) (e .some) (not-agreed v z w e)) (e .first-label u (d .is-text) (d .some) (not-agreed u x y d)) in
+      let first = d .first-label v (e .is-text) (e .some) (not-agreed v z w e) in
+      let second = e .first-label u (d .is-text) (d .some) (not-agreed u x y d) in
+      let same-text : u ≡ v = both-ways u v first second in
       record {
         one-text = same-text;
         one-book = names-one rs v x z (rw same-text at (d .by-book)) (e .by-book);
@@ -78,17 +80,19 @@ not-same e = let z : _≡_ {A = ℕ} 0 1 = cc in omega arith
 not-told : {r : Refusal} {u : Told} → _≡_ {A = Outcome Told} (refuses r) (gives u) → ⊥
 not-told e = let z : _≡_ {A = ℕ} 0 1 = cc in omega arith
 
-module _ (file : List ℕ) (b : Book) (after : ℕ) (t : Table) (read : readBook file ≡ got b after) (area work : List ℕ) where
+module _ (file : List ℕ) (b : Book) (after : ℕ) (t : Table) (read : readBook file ≡ got b after) (area work : List ℕ) (room : Roomy area work) where
   abbrev rs : List Re
   rs = meant b
 
   shows : (text : Text) (x y : ℕ) → Differ rs t text x y → Shows rs t (length text) x y area (padded (length area) text)
   shows text x y d =
-      let e : take (length text) (padded (length area) text) ≡ text = take-at text (replicate (length area - length text) 0) (length text) refl in
+      let zeros : List ℕ = replicate (length area - length text) 0 in
+      let e : take (length text) (padded (length area) text) ≡ text = take-at text zeros (length text) refl in
       record {
         enough = ap length e;
         differ = rw e d;
-        rest = drop-at text (replicate (length area - length text) 0) (length text) refl;
+        rest = drop-at text zeros (length text) refl;
+        whole = omega (arith, length-append text zeros, length-replicate {A = ℕ} (length area - length text) 0, d .short, room .for-text);
       }
 
   answers-in : (o : Outcome Verdict) → compareBook file t ≡ o → Answered rs t area work (answeredIn area work o)
@@ -168,7 +172,7 @@ module _ (file : List ℕ) (s : ℕ) (labels targets area work : List ℕ) where
     pub call-answered : wellFormed s labels targets ≡ true → (b : Book) (after : ℕ) → readBook file ≡ got b after
         → Answered (meant b) (lent s labels targets) area work call
     call-answered e b after d =
-        rw (well-formed e) (answers-in file b after (lent s labels targets) d area work (compareBook file (lent s labels targets)) refl)
+        rw (well-formed e) (answers-in file b after (lent s labels targets) d area work room (compareBook file (lent s labels targets)) refl)
 
     -- a table that is found the same
     pub call-same : wellFormed s labels targets ≡ true → compareBook file (lent s labels targets) ≡ gives Same
