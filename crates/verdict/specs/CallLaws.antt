@@ -1,6 +1,6 @@
 -- The steps to the theorems of Main on the call: Room, Loaded, the book's refusal and the walk's, in this order, and what each leaves.
 -- Also that a shown text is the only one, and what the call says of the memory that its book's own build left.
-use Prim.Native.Nat.{ℕ, _*_, _-_}
+use Prim.Native.Nat.{ℕ, _-_}
 use mathlib.Core.Path.{_≡_, refl, sym, ap, subst, _∙_}
 use mathlib.Core.Bool.{Bool, true, false, cond, _||_}
 use mathlib.Core.List.{List}
@@ -12,7 +12,7 @@ use lib.ListN.{length, take, replicate, length-append, length-replicate}
 use lib.Seq.{take-at, drop-at}
 use Rattle.number.specs.declared.Refusal.{Refusal}
 use Rattle.number.specs.declared.Refusal.the-variants.{Loaded, Room}
-use Rattle.number.specs.Limits.{bytes, shownText}
+use Rattle.number.specs.Limits.{shownText}
 use Rattle.number.specs.Refused.{Outcome, rowOf}
 use Rattle.number.specs.Refused.Answer.{got, refused}
 use Rattle.number.specs.Refused.Outcome.{gives, refuses}
@@ -24,7 +24,7 @@ use Rattle.book.specs.Reads.{readBook}
 use Rattle.book.specs.Expression.{meant}
 use Rattle.table.specs.Table.{Table, lent, wellFormed}
 use Rattle.table.specs.Calls.{padded, cramped}
-use Rattle.table.specs.Formed.{Formed}
+use Rattle.table.specs.SheetCalls.{filled-has-table}
 use Rattle.cutting.specs.Steps.{labelOf}
 use Rattle.vector.specs.Layout.{workLength}
 use Rattle.walk.specs.Texts.{NotLater}
@@ -187,13 +187,6 @@ count-same e = cc
 no-count : {r : Refusal} {n : ℕ} → _≡_ {A = Outcome ℕ} (refuses r) (gives n) → ⊥
 no-count e = let z : _≡_ {A = ℕ} 0 1 = cc in omega arith
 
--- a table at the front of its area is the table that is lent
-lent-padded : (u : Table) (n m k : ℕ) → Formed u → u .count ≡ k → lent k (padded n (u .labels)) (padded m (u .targets)) ≡ u
-lent-padded u n m k f e =
-    let p = take-at (u .labels) (replicate (n - length (u .labels)) 0) (u .count) (f .labelled) in
-    let q = take-at (u .targets) (replicate (m - length (u .targets)) 0) (u .count * bytes) (f .filled) in
-    subst (λ (c : ℕ). lent c (padded n (u .labels)) (padded m (u .targets)) ≡ u) e (λ i. record { count = u .count; labels = p i; targets = q i })
-
 module _ (file labels targets scratch : List ℕ) (n : ℕ) (e : buildOf file labels targets scratch .table .answer ≡ gives n) where
   abbrev made : Building
   made = buildOf file labels targets scratch
@@ -212,7 +205,8 @@ module _ (file labels targets scratch : List ℕ) (n : ℕ) (e : buildOf file la
       filled (gives u) d c =
           let left = the-call file labels targets scratch n e in
           let formed = the-build file (left .book) (left .after) u (left .read) d .formed in
-          ap gives (sym (lent-padded u (length labels) (length targets) n formed (count-same c)))
+          ap gives (subst (λ (k : ℕ). u ≡ lent k (padded (length labels) (u .labels)) (padded (length targets) (u .targets))) (count-same c)
+          (sym (filled-has-table u labels targets formed)))
 
       go : (b : Bool) → built b .table .answer ≡ gives n → buildBook file ≡ gives (lent n (built b .table .labels) (built b .table .targets))
       go true d = absurd (no-count d)
