@@ -14,7 +14,7 @@ use Rattle.number.specs.Branch.{by-cond}
 use Rattle.number.specs.Limits.{rulesFile}
 use Rattle.number.specs.Lists.{Writes}
 use Rattle.meaning.specs.Re.{Text}
-use Rattle.typed.specs.Quoted.{quoted}
+use Rattle.number.specs.Quoted.{quoted}
 use Rattle.advised.specs.Advice.{typedAdvice, rangeAdvice, noRule, unread, adviceOn, adviceOf, adviceRoom}
 use Rattle.phrases.specs.WriteLaws.{writes-as}
 use Rattle.paragraphs.specs.RoomLaws.{typed-room, range-room, unread-most}

@@ -14,7 +14,7 @@ use Rattle.meaning.specs.Re.{Text}
 use Rattle.lines.specs.Digits.{decimal}
 use Rattle.typed.specs.Spells.{bare}
 use Rattle.typed.specs.Calls.{bookBytes}
-use Rattle.typed.specs.Quoted.{quoted}
+use Rattle.number.specs.Quoted.{quoted}
 
 abbrev pub newline : ℕ
 newline = 10

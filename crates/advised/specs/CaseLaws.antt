@@ -10,7 +10,7 @@ use Rattle.number.specs.declared.Refusal.{Refusal}
 use Rattle.number.specs.declared.Refusal.the-variants.{Short, Number, Range, Stack, Tail, Long, Pool, States, Runs, Loaded, Room, Pairs, Input, Typed}
 use Rattle.number.specs.Limits.{rulesFile}
 use Rattle.meaning.specs.Re.{Text}
-use Rattle.typed.specs.Quoted.{quoted}
+use Rattle.number.specs.Quoted.{quoted}
 use Rattle.advised.specs.Advice.{typedAdvice, rangeAdvice, noRule, unread, adviceOn, adviceOf}
 
 pub typed-outside : (text : Text) (p : ℕ) → length text < p → [] ≡ adviceOn text (Typed p)

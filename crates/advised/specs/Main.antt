@@ -12,7 +12,7 @@ use Rattle.number.specs.Limits.{rulesFile}
 use Rattle.number.specs.Refused.Outcome.{refuses}
 use Rattle.meaning.specs.Re.{Text}
 use Rattle.typed.specs.Calls.{bookBytes}
-use Rattle.typed.specs.Quoted.{quoted}
+use Rattle.number.specs.Quoted.{quoted}
 use Rattle.rules_book.specs.Print.{rulesBytes}
 use Rattle.advised.specs.Advice.{startAt, couldStand, adviceOf, adviceRoom}
 use Rattle.advised.specs.Bought.{Begins, StartOfLine, Told}

@@ -5,7 +5,7 @@ use mathlib.Core.Path.{_≡_}
 use mathlib.Core.List.{List, [], _∷_}
 use Rattle.number.specs.declared.Refusal.{Refusal}
 use Rattle.number.specs.declared.Refusal.the-variants.{Range, Typed}
-use Rattle.typed.specs.Quoted.{quoted}
+use Rattle.number.specs.Quoted.{quoted}
 use Rattle.advised.specs.Advice.{adviceOf}
 
 -- a text, its refusal, and what people are told of it

@@ -22,7 +22,7 @@ use Rattle.typed.specs.Lines.{digit}
 use Rattle.typed.specs.LineReader.{begins, colon, onDigit, ends, stepped, turn, accept, readLines}
 use Rattle.typed.specs.Calls.{bookOf, outOf, fault, startOf, ranged, answered, bookBytes}
 use Rattle.typed.specs.WorkedLaws.{same-bytes}
-use Rattle.typed.specs.Quoted.{quoted}
+use Rattle.number.specs.Quoted.{quoted}
 use Rattle.typed.specs.TestLaws.{both-hold}
 use Rattle.advised.specs.Advice.{newlines, lastStart, shown, markLine, couldStand, kept, neighbours, joined, runs, byteName, runName, runNames, testedLine}
 use Rattle.advised.specs.Advice.{phrase, placeWords, faultWords, typedAdvice, tooMuch, rangeAdvice, noRule, unread, adviceOn, adviceOf}

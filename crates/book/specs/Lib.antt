@@ -1,4 +1,4 @@
--- Rule books. Definitions, in reading order: Book, Reads, Valid, Expression, Places, Calls, Promises, Sample, Seven, Refusals, Asked, Postfix, Answers; the other files prove things of these.
+-- Rule books. Definitions, in reading order: Book, Reads, Valid, Expression, Places, Calls, Promises, Sample, Seven, Refusals, Asked, Faults, Postfix, Answers; the other files prove things of these.
 -- Main gathers the theorems that are bought.
 pub mod Book
 pub mod Reads
@@ -11,6 +11,7 @@ pub mod Sample
 pub mod Seven
 pub mod Refusals
 pub mod Asked
+pub mod Faults
 pub mod Postfix
 pub mod Answers
 pub mod ReadLawsSteps
@@ -23,5 +24,7 @@ pub mod CodeLaws
 pub mod PlaceLaws
 pub mod ExpressionLaws
 pub mod PostfixLaws
+pub mod FaultLawsRead
+pub mod FaultLaws
 pub mod CallLaws
 pub mod Main

@@ -6,6 +6,7 @@ use mathlib.Core.List.{List, [], _∷_, _++_, map, flatten}
 use mathlib.Core.Logic.{_↔_, _⊎_}
 use lib.ListN.{length, drop}
 use Rattle.number.specs.declared.Refusal.{Refusal}
+use Rattle.number.specs.Limits.{rules, nodes}
 use Rattle.number.specs.Refused.{number, place, rowOf, rowRead}
 use Rattle.number.specs.Refused.Answer.{got, refused}
 use Rattle.number.specs.Numbers.{Bytes}
@@ -28,12 +29,14 @@ use Rattle.book.specs.Calls.{checked, checkOf, kindTold, kindOf}
 use Rattle.book.specs.Seven.{sevenBytes, sevenBook, sevenRules, seven-length, seven-reads, seven-writes, seven-means}
 use Rattle.book.specs.Refusals.{told, stated, lines, lines-told}
 use Rattle.book.specs.Asked.{replied, expected, asked, all-replied}
+use Rattle.book.specs.Faults.{Faulty}
 use Rattle.book.specs.Postfix.{postfix, AllOfBytes, BookFor}
 use Rattle.book.specs.ReadLawsWritten.{node-written}
 use Rattle.book.specs.ReadLaws.{book-written, book-read, book-exact, book-one, book-valid, book-none, book-refused}
 use Rattle.book.specs.ReadLawsPlaces.{rule-in}
 use Rattle.book.specs.ExpressionLaws.{run-whole, expression-size}
 use Rattle.book.specs.PostfixLaws.{postfix-run, postfix-size, book-for, either-means}
+use Rattle.book.specs.FaultLaws.{faulty-exact}
 use Rattle.book.specs.CallLaws.{check-read, kind-read, kind-past, check-refused, kind-refused, check-row, kind-row}
 
 -- what is written for a valid book is read as that book, to its end
@@ -106,7 +109,7 @@ pub the-postfix : (r : Re) (stack : List Re) → (runNodes (postfix r) stack ≡
 the-postfix r stack = (postfix-run r stack, postfix-size r)
 
 -- so any expressions are the rules of some book, if they are 1 to 32, their ranges are of bytes, and they have at most 512 nodes together
-pub the-expressions : (row : List Re) → 1 ≤ length row → length row ≤ 32 → AllOfBytes row → length (flatten (map postfix row)) ≤ 512
+pub the-expressions : (row : List Re) → 1 ≤ length row → length row ≤ rules → AllOfBytes row → length (flatten (map postfix row)) ≤ nodes
     → BookFor row
 the-expressions = book-for
 
@@ -115,7 +118,11 @@ pub the-either : (x y : ℕ) (stack : List Re) (w : Text) → x ≡ y + 32
     → ((w ≡ x ∷ []) ⊎ (w ≡ y ∷ [])) ↔ Matches (top (runNodes (Either x ∷ []) stack)) w
 the-either = either-means
 
--- which refusal, and where: the files of the list, each with the table's number and place, and books that are read
+-- which refusal, and where, for every file: it is refused by r exactly where it is faulty so, told by what stands in it before the fault
+pub the-faults : (file : List ℕ) (r : Refusal) → Bytes file → (readBook file ≡ refused r) ↔ Faulty file r
+the-faults = faulty-exact
+
+-- and computed: the files of the list, each with the table's number and place, and books that are read
 pub the-refused-files : map told lines ≡ map stated lines
 the-refused-files = lines-told
 

@@ -1,16 +1,15 @@
 -- The steps to the theorems of Main: a table built from a book is right, a call that succeeds leaves such a table, and wider limits change no answer.
 -- What is proved of rules stands in BuildLaws and BuiltFormed, and of a walk with other limits in walk's WiderLaws; here it comes to books and to memory.
-use Prim.Native.Nat.{ℕ, _*_, _-_, _≤_}
+use Prim.Native.Nat.{ℕ, _≤_}
 use mathlib.Core.Path.{_≡_, refl, sym, ap, subst, _∙_}
 use mathlib.Core.Bool.{Bool, true, false, cond, _||_}
 use mathlib.Core.List.{List}
 use native.Mathlib.Omega.{arith}
 use lib.Dec.{ltb}
 use lib.ListN.{length, replicate, length-map}
-use lib.Seq.{take-at}
 use Rattle.number.specs.declared.Refusal.{Refusal}
 use Rattle.number.specs.declared.Refusal.the-variants.{Long, Room}
-use Rattle.number.specs.Limits.{rules, bytes, states, pool}
+use Rattle.number.specs.Limits.{rules, states, pool}
 use Rattle.number.specs.Refused.{Answer, Outcome}
 use Rattle.number.specs.Refused.Answer.{got, refused}
 use Rattle.number.specs.Refused.Outcome.{gives, refuses}
@@ -24,6 +23,7 @@ use Rattle.table.specs.Calls.{padded, cramped, filledWith}
 use Rattle.table.specs.Formed.{Formed}
 use Rattle.table.specs.SheetFormed.{formed-well}
 use Rattle.table.specs.SheetLaws.{sheet-read-back}
+use Rattle.table.specs.SheetCalls.{filled-has-table}
 use Rattle.vector.specs.Layout.{workLength}
 use Rattle.walk.specs.WiderLaws.{wider-gives, wider-refuses, long-stays}
 use Rattle.built.specs.Build.{aloneTo, builtOf, buildRulesTo, buildRules}
@@ -51,13 +51,6 @@ build-right file b after t e d =
 
 -- ---- what a call leaves
 
--- the table that stands in an area, with the rest of the area 0
-lent-filled : (t : Table) (n m : ℕ) → Formed t → lent (t .count) (padded n (t .labels)) (padded m (t .targets)) ≡ t
-lent-filled t n m f =
-    let p = take-at (t .labels) (replicate (n - length (t .labels)) 0) (t .count) (f .labelled) in
-    let q = take-at (t .targets) (replicate (m - length (t .targets)) 0) (t .count * bytes) (f .filled) in
-    λ i. record { count = t .count; labels = p i; targets = q i }
-
 gives-count : {n m : ℕ} → _≡_ {A = Outcome ℕ} (gives n) (gives m) → n ≡ m
 gives-count e = cc
 
@@ -75,7 +68,7 @@ module _ (file labels targets : List ℕ) where
       go (refused r) p q = absurd (let z : _≡_ {A = ℕ} 0 1 = cc in omega arith)
       go (got b after) p q =
           let m = build-right file b after t p (ap buildRead p ∙ q) in
-          let l = lent-filled t (length labels) (length targets) (m .formed) in
+          let l = filled-has-table t labels targets (m .formed) in
           let n : t .count ≡ s = gives-count e in
           let u : lent s (padded (length labels) (t .labels)) (padded (length targets) (t .targets)) ≡ t =
           ap (λ (k : ℕ). lent k (padded (length labels) (t .labels)) (padded (length targets) (t .targets))) (sym n) ∙ l in

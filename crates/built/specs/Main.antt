@@ -18,6 +18,7 @@ use Rattle.book.specs.Expression.{meant}
 use Rattle.book.specs.Sample.{wBytes}
 use Rattle.table.specs.Table.{Table}
 use Rattle.table.specs.Sheet.{readSheet, writeSheet}
+use Rattle.cutting.specs.Sample.{tableW}
 use Rattle.walk.specs.Passing.{Limits}
 use Rattle.vector.specs.Layout.{workLength}
 use Rattle.built.specs.Build.{buildRulesTo, buildRules}
@@ -27,7 +28,7 @@ use Rattle.built.specs.States.{heldStates, HasStates}
 use Rattle.built.specs.StateLaws.{build-limits, build-states}
 use Rattle.built.specs.CallLaws.{build-right, call-left, wider-built, wider-long}
 use Rattle.built.specs.CallTold.{call-built, call-refused, call-unbuilt, call-few-labels, call-few-targets, call-short-work}
-use Rattle.built.specs.Sample.{wTable, wSheet, w-built, w-written, w-read-back}
+use Rattle.built.specs.Sample.{wSheet, w-built, w-written, w-read-back}
 use Rattle.built.specs.Refused.{Line, refusedLines, refused-lines}
 
 -- ---- tables
@@ -41,7 +42,7 @@ pub the-states : (rs : List Re) (t : Table) → buildRules rs ≡ gives t → Ha
 the-states = build-states
 
 -- W's table of 7 states, with all targets, and its sheet byte by byte
-pub the-sample-build : (buildBook wBytes ≡ gives wTable) × (writeSheet wTable ≡ wSheet) × (readSheet wSheet ≡ got wTable 73)
+pub the-sample-build : (buildBook wBytes ≡ gives tableW) × (writeSheet tableW ≡ wSheet) × (readSheet wSheet ≡ got tableW 73)
 the-sample-build = (w-built, w-written, w-read-back)
 
 -- ---- the call

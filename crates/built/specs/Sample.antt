@@ -1,9 +1,8 @@
--- The build of the sample book W: its table of 7 states with all their targets, and its sheet in bytes, as program sheet writes it.
+-- The build of the sample book W: it gives the table of 7 states that cutting has written out; and its sheet in bytes, as program sheet writes it.
 -- The checker computes each equation.
 use Prim.Native.Nat.{ℕ}
 use mathlib.Core.Path.{_≡_, refl, ap, _∙_}
-use mathlib.Core.List.{List, [], _∷_, _++_}
-use lib.ListN.{replicate}
+use mathlib.Core.List.{List, [], _∷_}
 use Rattle.number.specs.Numbers.{due, several, readNumber, within, field, writeNumber}
 use Rattle.number.specs.Refused.Answer.{got}
 use Rattle.number.specs.Refused.Outcome.{gives}
@@ -15,41 +14,14 @@ use Rattle.meaning.specs.Derive.{nullable, deriv}
 use Rattle.meaning.specs.Limited.{derivFit, normalFit}
 use Rattle.meaning.specs.Rules.{labelFrom}
 use Rattle.book.specs.Sample.{wBytes, w-reads, w-means}
-use Rattle.table.specs.Table.{Table}
 use Rattle.table.specs.Sheet.{readRuns, readStates, sheet, readSheet}
 use Rattle.table.specs.Sheet.{joined, runsOf, writeRuns, writeRow, writeStates, writeSheet}
+use Rattle.cutting.specs.Sample.{tableW}
 use Rattle.walk.specs.Vectors.{derived, normalised, sameVector}
 use Rattle.walk.specs.Parts.{holds, withTerm, withParts, withVector}
 use Rattle.walk.specs.Walk.{numberIn, come, step, row, rows, walkFrom}
 use Rattle.built.specs.Build.{buildRules}
 use Rattle.built.specs.Calls.{buildRead, buildBook}
-
--- states: 0 the start, 1 the dead one, 2 after a space, 3 after digits, 4 after letters, 5 after `t`, 6 after `to`.
--- By a space (32), digits (48 to 57) and letters (97 to 122, t is 116) on from the start
-abbrev startRow : List ℕ
-startRow =
-    replicate 32 1 ++ (replicate 1 2 ++ (replicate 15 1 ++ (replicate 10 3 ++ (replicate 39 1
-    ++ (replicate 19 4 ++ (replicate 1 5 ++ (replicate 6 4 ++ replicate 133 1)))))))
-
-abbrev deadRow : List ℕ
-deadRow = replicate 256 1
-
-abbrev digitsRow : List ℕ
-digitsRow = replicate 48 1 ++ (replicate 10 3 ++ replicate 198 1)
-
-abbrev lettersRow : List ℕ
-lettersRow = replicate 97 1 ++ (replicate 26 4 ++ replicate 133 1)
-
--- o is 111
-abbrev afterT : List ℕ
-afterT = replicate 97 1 ++ (replicate 14 4 ++ (replicate 1 6 ++ (replicate 11 4 ++ replicate 133 1)))
-
-unfoldable pub wTable : Table
-wTable = record {
-  count = 7;
-  labels = 0 ∷ 0 ∷ 4 ∷ 3 ∷ 2 ∷ 2 ∷ 1 ∷ [];
-  targets = startRow ++ (deadRow ++ (deadRow ++ (digitsRow ++ (lettersRow ++ (afterT ++ lettersRow)))));
-}
 
 -- version and state count; then a line for each state: its label, its run count, and its runs, each as length and target
 unfoldable pub wSheet : List ℕ
@@ -64,17 +36,17 @@ wSheet =
     0x01 ∷ 0x03 ∷ 0x61 ∷ 0x01 ∷ 0x1A ∷ 0x04 ∷ 0x85 ∷ 0x01 ∷ 0x01 ∷
     []
 
-pub w-builds : buildRules W ≡ gives wTable
-unfolding wTable buildRules walkFrom rows row step come numberIn withVector withParts withTerm holds sameVector derived normalised labelFrom derivFit normalFit deriv nullable normal star alt nested sorted placed kept gathered cat chain order size
+pub w-builds : buildRules W ≡ gives tableW
+unfolding buildRules walkFrom rows row step come numberIn withVector withParts withTerm holds sameVector derived normalised labelFrom derivFit normalFit deriv nullable normal star alt nested sorted placed kept gathered cat chain order size
 w-builds = refl
 
-pub w-built : buildBook wBytes ≡ gives wTable
+pub w-built : buildBook wBytes ≡ gives tableW
 w-built = ap buildRead w-reads ∙ ap buildRules w-means ∙ w-builds
 
-pub w-written : writeSheet wTable ≡ wSheet
-unfolding wTable wSheet writeSheet writeStates writeRow writeRuns runsOf joined writeNumber
+pub w-written : writeSheet tableW ≡ wSheet
+unfolding wSheet writeSheet writeStates writeRow writeRuns runsOf joined writeNumber
 w-written = refl
 
-pub w-read-back : readSheet wSheet ≡ got wTable 73
-unfolding wTable wSheet sheet readStates readRuns field within readNumber due several
+pub w-read-back : readSheet wSheet ≡ got tableW 73
+unfolding wSheet sheet readStates readRuns field within readNumber due several
 w-read-back = refl

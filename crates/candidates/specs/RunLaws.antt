@@ -15,7 +15,7 @@ use Rattle.number.specs.Lists.{Writes}
 use Rattle.advised.specs.Advice.{newline, space, kept, Run, neighbours, joined, runs, byteName, runName, runNames, testedLine}
 use Rattle.candidates.specs.Promises.{runWords, flagged, keptFrom, runsFrom, NextUp, RunOf}
 use Rattle.phrases.specs.Left.{Left, left-as, left-room, left-step, left-none}
-use Rattle.typed.specs.Quoted.{quoted}
+use Rattle.number.specs.Quoted.{quoted}
 use Rattle.typed.specs.Spells.{bare}
 
 -- ---- runs of the bytes for which a test holds

@@ -6,6 +6,7 @@ use mathlib.Core.List.{List, [], _∷_, _++_, map, flatMap}
 use lib.ListN.{replicate}
 use Rattle.number.specs.declared.Refusal.the-variants.{Loaded}
 use Rattle.meaning.specs.Re.{Text}
+use Rattle.meaning.specs.Sample.{t, o, m, space, seven, hash}
 use Rattle.meaning.specs.Words.{scan}
 use Rattle.meaning.specs.Words.Found.{Stuck as Found·stuck, Word as Found·word}
 use Rattle.table.specs.Table.{Table, all, wellFormed}
@@ -21,26 +22,31 @@ use Rattle.cutting.specs.Left.{numbersOf}
 
 -- ---- tables as lent memory
 
--- a row whose bytes all lead to one state; one whose letters lead to state 4 and whose other bytes to state 1
+-- a row whose bytes all lead to one state
 abbrev everyByte : ℕ → List ℕ
 everyByte s = replicate 256 s
 
-abbrev letters : List ℕ
-letters = replicate 97 1 ++ (replicate 26 4 ++ replicate 133 1)
+-- the rows of W: by a space (32), digits (48 to 57) and letters (97 to 122, t is 116) on from the start; on from digits; from letters; from `t`, by o (111)
+abbrev fromStart : List ℕ
+fromStart =
+    replicate 32 1 ++ (2 ∷ (replicate 15 1 ++ (replicate 10 3 ++ (replicate 39 1
+    ++ (replicate 19 4 ++ (5 ∷ (replicate 6 4 ++ replicate 133 1)))))))
+
+abbrev fromDigits : List ℕ
+fromDigits = replicate 48 1 ++ (replicate 10 3 ++ replicate 198 1)
+
+abbrev fromLetters : List ℕ
+fromLetters = replicate 97 1 ++ (replicate 26 4 ++ replicate 133 1)
+
+abbrev fromT : List ℕ
+fromT = replicate 97 1 ++ (replicate 14 4 ++ (6 ∷ (replicate 11 4 ++ replicate 133 1)))
 
 -- W: state 1 is the dead one, 2 after a space, 3 after digits, 4 after letters, 5 after `t`, 6 after `to`
 abbrev pub tableW : Table
 tableW = record {
   count = 7;
   labels = 0 ∷ 0 ∷ 4 ∷ 3 ∷ 2 ∷ 2 ∷ 1 ∷ [];
-  targets =
-      (replicate 32 1 ++ (2 ∷ (replicate 15 1 ++ (replicate 10 3 ++ (replicate 39 1 ++ (replicate 19 4 ++ (5 ∷ (replicate 6 4 ++ replicate 133 1))))))))
-      ++ (everyByte 1
-      ++ (everyByte 1
-      ++ ((replicate 48 1 ++ (replicate 10 3 ++ replicate 198 1))
-      ++ (letters
-      ++ ((replicate 97 1 ++ (replicate 14 4 ++ (6 ∷ (replicate 11 4 ++ replicate 133 1))))
-      ++ letters)))));
+  targets = fromStart ++ (everyByte 1 ++ (everyByte 1 ++ (fromDigits ++ (fromLetters ++ (fromT ++ fromLetters)))));
 }
 
 -- the rules `1` and `1.1`: 2 after `1`, 3 after `1.`, 4 after `1.1`
@@ -74,31 +80,13 @@ tableLabel = record { count = 1; labels = 33 ∷ []; targets = everyByte 0 }
 abbrev pub tableTarget : Table
 tableTarget = record { count = 1; labels = 1 ∷ []; targets = everyByte 1 }
 
--- ---- bytes of the texts
-
-abbrev t : ℕ
-t = 116
-
-abbrev o : ℕ
-o = 111
-
-abbrev m : ℕ
-m = 109
-
-abbrev space : ℕ
-space = 32
+-- ---- bytes of the texts, beside those of the worked lines
 
 abbrev one : ℕ
 one = 49
 
-abbrev seven : ℕ
-seven = 55
-
 abbrev dot : ℕ
 dot = 46
-
-abbrev hash : ℕ
-hash = 35
 
 -- ---- the cuts
 

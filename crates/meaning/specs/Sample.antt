@@ -36,22 +36,22 @@ abbrev pub EachHolds : List Line → Type 0
 EachHolds [] = Unit
 EachHolds (line ∷ rest) = Holds line × EachHolds rest
 
-abbrev t : ℕ
+abbrev pub t : ℕ
 t = 116
 
-abbrev o : ℕ
+abbrev pub o : ℕ
 o = 111
 
-abbrev m : ℕ
+abbrev pub m : ℕ
 m = 109
 
-abbrev seven : ℕ
+abbrev pub seven : ℕ
 seven = 55
 
-abbrev space : ℕ
+abbrev pub space : ℕ
 space = 32
 
-abbrev hash : ℕ
+abbrev pub hash : ℕ
 hash = 35
 
 unfoldable pub lines : List Line

@@ -13,7 +13,7 @@ use Rattle.number.specs.Branch.{by-cond}
 use Rattle.meaning.specs.Re.{Text}
 use Rattle.lines.specs.Digits.{decimal}
 use Rattle.lines.specs.DigitLaws.{decimal-most}
-use Rattle.typed.specs.Quoted.{quoted}
+use Rattle.number.specs.Quoted.{quoted}
 use Rattle.advised.specs.Advice.{newline, space, newlines, lineAt, startAt, columnAt, printed, shown, shownLine, markLine, couldStand}
 use Rattle.advised.specs.Advice.{kept, Run, neighbours, joined, runs, byteName, runName, runNames, testedLine}
 use Rattle.advised.specs.Advice.{phrase, placeWords, faultWords, overRules, overKinds, overNodes, inAll, tooMuch, overFile, inBytes, typedAdvice, rangeAdvice, unread, adviceRoom}

@@ -9,7 +9,7 @@ use lib.ListN.{length, drop, getD, replicate, length-append, drop-of-length-le}
 use borrow.Author.Tests.{eq-eqb, ne-eqb}
 use Rattle.number.specs.Lists.{drop-one, Writes}
 use Rattle.lines.specs.Digits.{decimal}
-use Rattle.typed.specs.Quoted.{quoted}
+use Rattle.number.specs.Quoted.{quoted}
 use Rattle.advised.specs.Advice.{newline, space, printed, shown, shownLine, markLine, byteName}
 use Rattle.advised.specs.Advice.{phrase, placeWords, faultWords, overRules, overKinds, overNodes, inAll, tooMuch}
 use Rattle.phrases.specs.SpotLaws.{shown-newline, shown-other, shown-end}

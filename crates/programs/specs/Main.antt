@@ -44,11 +44,11 @@ one-print a b = (a .place ∙ sym (b .place), a .out ∙ sym (b .out))
 
 -- what is over its size is `refused 13 0`, whatever else is wrong with it or with the other file; the theorems below read all that is not
 pub record Sizes : Type 0 where
-  pub cut-book : (book : List ℕ) (text : Text) → 4096 < length book → cutPrint book text ≡ overLine
-  pub cut-text : (book : List ℕ) (text : Text) → 32768 < length text → cutPrint book text ≡ overLine
-  pub compare-book : (book sheet : List ℕ) → 4096 < length book → comparePrint book sheet ≡ overLine
-  pub compare-sheet : (book sheet : List ℕ) → 65536 < length sheet → comparePrint book sheet ≡ overLine
-  pub sheet-book : (book : List ℕ) → 4096 < length book → sheetOf book ≡ refuses Input
+  pub cut-book : (book : List ℕ) (text : Text) → bookFile < length book → cutPrint book text ≡ overLine
+  pub cut-text : (book : List ℕ) (text : Text) → textFile < length text → cutPrint book text ≡ overLine
+  pub compare-book : (book sheet : List ℕ) → bookFile < length book → comparePrint book sheet ≡ overLine
+  pub compare-sheet : (book sheet : List ℕ) → sheetFile < length sheet → comparePrint book sheet ≡ overLine
+  pub sheet-book : (book : List ℕ) → bookFile < length book → sheetOf book ≡ refuses Input
 
 pub the-sizes : Sizes
 the-sizes =
@@ -62,10 +62,10 @@ the-sizes =
 
 -- a book that comes to no table: programs cut and sheet tell this refusal, and nothing else is printed
 pub record Refuses (book : List ℕ) (r : Refusal) : Type 0 where
-  pub cut : (text : Text) → length text ≤ 32768 → cutPrint book text ≡ refusedLine r
+  pub cut : (text : Text) → length text ≤ textFile → cutPrint book text ≡ refusedLine r
   pub sheet : sheetOf book ≡ refuses r
 
-module _ (book : List ℕ) (small : length book ≤ 4096) where
+module _ (book : List ℕ) (small : length book ≤ bookFile) where
   -- so it is for a book that is refused, and for one that is not built
   pub the-refused-book : (r : Refusal) → readBook book ≡ refused r → Refuses book r
   the-refused-book r e = let d = ap buildRead e in record { cut = cut-none book small r d; sheet = sheet-none book small r d }
@@ -137,7 +137,7 @@ module _ (book : List ℕ) (b : Book) (after : ℕ) (sheet : List ℕ) (t : Tabl
 -- ---- sheet
 
 -- the sheet of a book that is read and built is its table's; W's is this
-pub the-sheet : (book : List ℕ) (b : Book) (after : ℕ) (t : Table) → readBook book ≡ got b after → buildRules (meant b) ≡ gives t → length book ≤ 4096
+pub the-sheet : (book : List ℕ) (b : Book) (after : ℕ) (t : Table) → readBook book ≡ got b after → buildRules (meant b) ≡ gives t → length book ≤ bookFile
     → sheetOf book ≡ gives (writeSheet t)
 the-sheet book b after t read e small = sheet-of book small t (ap buildRead read ∙ e)
 
@@ -151,7 +151,7 @@ the-own-sheet = own-sheet
 
 -- ---- files byte by byte
 
--- what the programs print for nine pairs of files: kinds and places of several digits, W against the sheet in which two states are merged,
--- files that are refused, the book's refusal before the sheet's
+-- what the programs print for twelve pairs of files: kinds and places of several digits, W against the sheet in which two states are merged,
+-- an empty text, files that are refused, a book that is not built, the book's refusal before the sheet's
 pub the-prints : map printed prints ≡ map stated prints
 the-prints = prints-hold

@@ -1,9 +1,9 @@
--- What the programs print for a few files, byte by byte: kinds and places of several digits, a difference, files that are refused, and in which order.
+-- What the programs print for a few files, byte by byte: kinds and places of several digits, a difference, files that are refused or not built, and in which order.
 -- The checker computes each line, from the files' bytes on.
-use Prim.Native.Nat.{ℕ}
+use Prim.Native.Nat.{ℕ, zero, suc}
 use mathlib.Core.Path.{_≡_, refl}
-use mathlib.Core.List.{List, [], _∷_, map}
-use lib.ListN.{take}
+use mathlib.Core.List.{List, [], _∷_, _++_, map}
+use lib.ListN.{take, replicate}
 use Rattle.number.specs.Numbers.{due, several, readNumber, within, field}
 use Rattle.meaning.specs.Re.{Text, size}
 use Rattle.meaning.specs.Order.{order}
@@ -31,7 +31,7 @@ use Rattle.programs.specs.Print.{cutPrint, comparePrint}
 
 -- ---- files
 
--- two rules: any letter from a to z, with kind 16,383; and nothing else than `00`, with kind 128
+-- two rules: a letter from a to z, with kind 16,383; and `00`, with kind 128
 abbrev lettersBook : List ℕ
 lettersBook = 0x01 ∷ 0x02 ∷ 0xFF ∷ 0x7F ∷ 0x01 ∷ 0x02 ∷ 0x61 ∷ 0x7A ∷ 0x80 ∷ 0x01 ∷ 0x03 ∷ 0x02 ∷ 0x30 ∷ 0x30 ∷ 0x02 ∷ 0x30 ∷ 0x30 ∷ 0x03 ∷ []
 
@@ -60,6 +60,14 @@ earlySheet = take 72 wSheet
 
 abbrev newer : List ℕ
 newer = 0x02 ∷ 0x01 ∷ []
+
+-- one rule of 129 times `a` in a row, 257 nodes: its normal form has more than 255
+unfoldable pub bytesOfA : ℕ → List ℕ
+bytesOfA zero = []
+bytesOfA (suc n) = 0x02 ∷ 0x61 ∷ 0x61 ∷ bytesOfA n
+
+abbrev longBook : List ℕ
+longBook = 0x01 ∷ 0x01 ∷ 0x00 ∷ 0x81 ∷ 0x02 ∷ (bytesOfA 129 ++ replicate 128 3)
 
 -- ---- lines
 
@@ -112,19 +120,30 @@ sheetEnds = refusal (49 ∷ 32 ∷ 55 ∷ 50 ∷ 10 ∷ [])
 abbrev isNewer : List ℕ
 isNewer = refusal (51 ∷ 32 ∷ 48 ∷ 10 ∷ [])
 
+-- `6 0`
+abbrev isLong : List ℕ
+isLong = refusal (54 ∷ 32 ∷ 48 ∷ 10 ∷ [])
+
+-- `done 0`
+abbrev noWords : List ℕ
+noWords = 100 ∷ 111 ∷ 110 ∷ 101 ∷ 32 ∷ 48 ∷ 10 ∷ []
+
 abbrev pub prints : List Print
 prints =
     cuts lettersBook lettersText lettersLines ∷
     cuts earlyBook (116 ∷ []) bookEnds ∷
     cuts newer [] isNewer ∷
+    cuts longBook [] isLong ∷
+    cuts wBytes [] noWords ∷
     compares wBytes mergedSheet mergedLines ∷
     compares earlyBook wSheet bookEnds ∷
     compares earlyBook newer bookEnds ∷
     compares newer earlySheet isNewer ∷
     compares wBytes earlySheet sheetEnds ∷
     compares wBytes newer isNewer ∷
+    compares longBook wSheet isLong ∷
     []
 
 pub prints-hold : map printed prints ≡ map stated prints
-unfolding wBytes wSheet book readRules readNodes readNode readAfter field within readNumber several due stacked runNodes sheet readStates readRuns compareRules firstDiffering buildRules walkFrom rows row step come numberIn withVector withParts withTerm holds sameVector derived normalised labelFrom derivFit normalFit deriv nullable normal star alt nested sorted placed kept gathered cat chain order size cutBy firstBy scan wordLines wordLine doneLine stuckLine differsLine hexLine refusedLine item decimal digitsBy
+unfolding bytesOfA wBytes wSheet book readRules readNodes readNode readAfter field within readNumber several due stacked runNodes sheet readStates readRuns compareRules firstDiffering buildRules walkFrom rows row step come numberIn withVector withParts withTerm holds sameVector derived normalised labelFrom derivFit normalFit deriv nullable normal star alt nested sorted placed kept gathered cat chain order size cutBy firstBy scan wordLines wordLine doneLine stuckLine differsLine hexLine refusedLine item decimal digitsBy
 prints-hold = refl

@@ -1,15 +1,14 @@
 -- Tables in memory: what build or load left in a table area is the table of the definitions.
 -- The three programs' code builds or loads, and then goes by one of these laws.
-use Prim.Native.Nat.{ℕ, _-_, _*_, _≤_}
+use Prim.Native.Nat.{ℕ, _≤_}
 use native.Mathlib.Omega.{arith}
 use mathlib.Core.Path.{_≡_, refl, sym, ap, subst, _∙_}
 use mathlib.Core.Bool.{true}
 use mathlib.Core.List.{List}
 use borrow.Author.Tests.{le-ltb}
-use lib.ListN.{length, take, replicate}
-use lib.Seq.{take-at}
+use lib.ListN.{length}
 use Rattle.number.specs.declared.Refusal.{Refusal}
-use Rattle.number.specs.Limits.{bytes, states, tableCells}
+use Rattle.number.specs.Limits.{states, tableCells}
 use Rattle.number.specs.Numbers.{Bytes}
 use Rattle.number.specs.Refused.{Answer, Outcome}
 use Rattle.number.specs.Refused.Answer.{got, refused}
@@ -21,6 +20,7 @@ use Rattle.table.specs.Formed.{Formed}
 use Rattle.table.specs.Sheet.{readSheet}
 use Rattle.table.specs.SheetFormed.{formed-well}
 use Rattle.table.specs.SheetLaws.{sheet-back}
+use Rattle.table.specs.SheetCalls.{filled-has-table}
 use Rattle.table.specs.Calls.{counted, Filled, padded, loadRead, loadOf}
 use Rattle.table.specs.Promises.{Loads}
 use Rattle.vector.specs.Layout.{workLength}
@@ -37,12 +37,7 @@ pub record Stands (table : Table) (n : ℕ) (l t : List ℕ) : Type 0 where
 stands : (table : Table) (n : ℕ) (l t l′ t′ : List ℕ) → Formed table → n ≡ table .count
     → l′ ≡ padded (length l) (table .labels) → t′ ≡ padded (length t) (table .targets) → Stands table n l′ t′
 stands table n l t l′ t′ f e p q =
-    let fore : take (table .count) (padded (length l) (table .labels)) ≡ table .labels =
-    take-at (table .labels) (replicate (length l - length (table .labels)) 0) (table .count) (f .labelled) in
-    let aft : take (table .count * bytes) (padded (length t) (table .targets)) ≡ table .targets =
-    take-at (table .targets) (replicate (length t - length (table .targets)) 0) (table .count * bytes) (f .filled) in
-    let whole : lent (table .count) (padded (length l) (table .labels)) (padded (length t) (table .targets)) ≡ table =
-    λ i. record { count = table .count; labels = fore i; targets = aft i } in
+    let whole = filled-has-table table l t f in
     rw (e, p, q) (record { formed = f; well = formed-well _ _ _ (subst Formed (sym whole) f); same = whole })
 
 pub no-count : {r : Refusal} {n : ℕ} → _≡_ {A = Outcome ℕ} (refuses r) (gives n) → ⊥

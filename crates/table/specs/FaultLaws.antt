@@ -18,6 +18,7 @@ use Rattle.number.specs.Refused.Answer.{got, refused}
 use Rattle.number.specs.Numbers.{Bytes, field, writeNumber}
 use Rattle.number.specs.Reading.{Reader, onward}
 use Rattle.number.specs.Lists.{drop-one}
+use Rattle.number.specs.FaultLaws.{refused-field, field-fault}
 use Rattle.table.specs.Table.{Table}
 use Rattle.table.specs.Sheet.{Run, readRuns, readStates, sheet, readSheet}
 use Rattle.table.specs.Sheet.{writeRuns, writeRow, writeStates, writeSheet}
@@ -144,11 +145,11 @@ refused-past true q at f {r} e stop on =
     stop refl (sym same)
 refused-past false q at f e stop on = on refl e
 
-module _ (file : List ℕ) where
+module _ (file : List ℕ) (all : Bytes file) where
   number-fault : (w : List ℕ) (lo hi at : ℕ) (r : Refusal) → Due w lo hi → Stands file 0 w at → field file lo hi at ≡ refused r → Fault file r
   number-fault w lo hi at r due p e =
       let place : at ≡ length w = omega (arith, p .after) in
-      number w (drop at file) lo hi due (p .here) (ap (field file lo hi) (sym place) ∙ e)
+      number w (drop at file) lo hi due (p .here) (refused-field file lo hi (length w) r all (ap (field file lo hi) (sym place) ∙ e))
 
 state-more : (t : Table) (l m : ℕ) (rs : List Run) (x : Run) → InState t l m rs → 1 ≤ x .len → covered rs + x .len ≤ bytes
     → x .target < t .count → (x .target ≡ lastOf (t .count) rs → ⊥) → InState t l m (rs ++ (x ∷ []))
@@ -197,7 +198,7 @@ module _ (file : List ℕ) (all : Bytes file) (t : Table) (l m : ℕ) where
       let s : ℕ = t .count in
       let less : length rs < m = omega arith in
       refused-onward (field file 1 bytes at) e
-      (λ stop. number-fault file _ 1 bytes at r (dueLength t l m rs i less) p stop)
+      (λ stop. number-fault file all _ 1 bytes at r (dueLength t l m rs i less) p stop)
       λ len mid readLen e₁.
       let len-told : FieldRead file 1 bytes at len mid = field-back file all 1 bytes at len mid readLen in
       let both : Stands file 0 (stateBytes t l m rs ++ writeNumber len) mid = stands-both file 0 at mid _ _ p (len-told .stands) in
@@ -207,7 +208,7 @@ module _ (file : List ℕ) (all : Bytes file) (t : Table) (l m : ℕ) where
       λ within e₂.
       let room : covered rs + len ≤ bytes = omega (arith, ltb-false bytes (sum + len) within) in
       refused-onward (field file 0 (s - 1) mid) e₂
-      (λ stop. number-fault file _ 0 (s - 1) mid r (dueTarget t l m rs len i less (len-told .low) room) both stop)
+      (λ stop. number-fault file all _ 0 (s - 1) mid r (dueTarget t l m rs len i less (len-told .low) room) both stop)
       λ target far readTarget e₃.
       let target-told : FieldRead file 0 (s - 1) mid target far = field-back file all 0 (s - 1) mid target far readTarget in
       let small : target < s = omega (arith, target-told .high, i .begun .some) in
@@ -240,12 +241,12 @@ module _ (file : List ℕ) (all : Bytes file) (s : ℕ) (some : 1 ≤ s) (most :
       let begun : Begun t =
       record { some = some; most = most; labelled = omega arith; filled = full; label = label; target = target } in
       refused-onward (field file 0 rules at) e
-      (λ stop. number-fault file _ 0 rules at r (dueLabel t begun) p stop)
+      (λ stop. number-fault file all _ 0 rules at r (dueLabel t begun) p stop)
       λ l mid readLabel e₁.
       let label-told : FieldRead file 0 rules at l mid = field-back file all 0 rules at l mid readLabel in
       let labelled : Stands file 0 (writeSheet t ++ writeNumber l) mid = stands-both file 0 at mid _ _ p (label-told .stands) in
       refused-onward (field file 1 bytes mid) e₁
-      (λ stop. number-fault file _ 1 bytes mid r (dueRuns t l begun (label-told .high)) labelled stop)
+      (λ stop. number-fault file all _ 1 bytes mid r (dueRuns t l begun (label-told .high)) labelled stop)
       λ m far readCount e₂.
       let count-told : FieldRead file 1 bytes mid m far = field-back file all 1 bytes mid m far readCount in
       let none : InState t l m [] =
@@ -277,13 +278,13 @@ sheet-fault : (file : List ℕ) → Bytes file → (r : Refusal) → readSheet f
 unfolding sheet writeSheet writeStates
 sheet-fault file all r e =
     refused-onward (field file version version 0) e
-    (λ stop. number-fault file _ version version 0 r dueVersion (stands-none file 0) stop)
+    (λ stop. number-fault file all _ version version 0 r dueVersion (stands-none file 0) stop)
     λ v mid readVersion e₁.
     let version-told : FieldRead file version version 0 v mid = field-back file all version version 0 v mid readVersion in
     let one : v ≡ version = omega (arith, version-told .low, version-told .high) in
     let versioned : Stands file 0 (writeNumber version) mid = rw one at (version-told .stands) in
     refused-onward (field file 1 states mid) e₁
-    (λ stop. number-fault file _ 1 states mid r dueCount versioned stop)
+    (λ stop. number-fault file all _ 1 states mid r dueCount versioned stop)
     λ s far readCount e₂.
     let count-told : FieldRead file 1 states mid s far = field-back file all 1 states mid s far readCount in
     refused-onward (readStates file s s far) e₂
@@ -451,7 +452,8 @@ module _ (file : List ℕ) where
 
   fault-refused : (r : Refusal) → Fault file r → readSheet file ≡ refused r
   unfolding readRuns
-  fault-refused r (number w rest lo hi due same e) = due-refused (length w) r due (begins w rest same) e
+  fault-refused r (number w rest lo hi due same f) =
+      due-refused (length w) r due (begins w rest same) (field-fault file lo hi (length w) r f)
   fault-refused r (passes t l m rs len rest i less small over same is) =
       let head : List ℕ = stateBytes t l m rs in
       let p = begins (head ++ writeNumber len) rest same in

@@ -1,5 +1,5 @@
 -- When a file is no sheet, and at which place: what stands before the place is the beginning of a sheet, and what is due there is missing or wrong.
--- Nothing here reads a file: a beginning is told by the bytes that are written of it. Exactly when a field is refused, number's Main says.
+-- Nothing here reads a file: a beginning is told by the bytes that are written of it, and a number's own faults number's Faults tells.
 use Prim.Native.Nat.{ℕ, _+_, _-_, _*_, _≤_, _<_}
 use mathlib.Core.Path.{_≡_}
 use mathlib.Core.List.{List, [], _∷_, _++_}
@@ -7,8 +7,8 @@ use lib.ListN.{length, getD}
 use Rattle.number.specs.declared.Refusal.{Refusal}
 use Rattle.number.specs.declared.Refusal.the-variants.{Tail, Runs}
 use Rattle.number.specs.Limits.{version, rules, states, bytes}
-use Rattle.number.specs.Refused.Answer.{refused}
-use Rattle.number.specs.Numbers.{field, writeNumber}
+use Rattle.number.specs.Numbers.{writeNumber}
+use Rattle.number.specs.Faults.{FieldFault}
 use Rattle.table.specs.Table.{Table}
 use Rattle.table.specs.Sheet.{Run, writeRuns, writeSheet}
 use Rattle.table.specs.Formed.{Formed, covered, Proper, Below}
@@ -48,7 +48,7 @@ pub data Due : List ℕ → ℕ → ℕ → Type 0 where
 -- the faults of a file, each with its refusal; `rest` is what follows, whatever it is
 pub data Fault (file : List ℕ) (r : Refusal) : Type 0 where
   -- a number that is due is not there: its own refusal at its first byte
-  number : (w rest : List ℕ) (lo hi : ℕ) → Due w lo hi → file ≡ w ++ rest → field file lo hi (length w) ≡ refused r → Fault file r
+  number : (w rest : List ℕ) (lo hi : ℕ) → Due w lo hi → file ≡ w ++ rest → FieldFault file lo hi (length w) r → Fault file r
   -- a sum passes 256: at the length, whatever follows it
   passes : (t : Table) (l m : ℕ) (rs : List Run) (len : ℕ) (rest : List ℕ) → InState t l m rs → length rs < m → len ≤ bytes
       → bytes < covered rs + len → file ≡ stateBytes t l m rs ++ writeNumber len ++ rest → r ≡ Runs (length (stateBytes t l m rs)) → Fault file r

@@ -1,5 +1,5 @@
 -- The theorems about sheets that are bought, together; each is proved in the file that its proof names.
--- To believe them, read only the definitions: Table, Sheet, Calls, Formed, Faults, Areas and Samples, with number's Limits, Refused, Numbers and Reading.
+-- To believe them, read only the definitions: Table, Sheet, Calls, Formed, Faults, Areas and Samples, with number's Limits, Refused, Numbers, Faults and Reading.
 use Prim.Native.Nat.{ℕ, suc, _-_, _*_, _≤_, _<_}
 use mathlib.Core.Path.{_≡_, refl}
 use mathlib.Core.Bool.{true}

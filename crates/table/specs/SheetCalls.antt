@@ -87,7 +87,7 @@ write-fits s labels targets out f room =
     (write-formed s labels targets out _ f refl (omega (arith, sheet-length (lent s labels targets) f)))
 
 -- memory that was filled with a formed table holds it
-filled-has-table : (t : Table) (labels targets : List ℕ) → Formed t
+pub filled-has-table : (t : Table) (labels targets : List ℕ) → Formed t
     → lent (t .count) (padded (length labels) (t .labels)) (padded (length targets) (t .targets)) ≡ t
 filled-has-table t labels targets f =
     rw (

@@ -19,7 +19,7 @@ use Rattle.typed.specs.Sets.Set.{alnum, alpha, blank, cntrl, digit, grap
 use Rattle.typed.specs.Sets.Span.{span}
 use Rattle.typed.specs.Exp.{Among}
 use Rattle.typed.specs.Spells.{between, bare, hex}
-use Rattle.typed.specs.Quoted.{quoted}
+use Rattle.number.specs.Quoted.{quoted}
 use Rattle.typed.specs.TestLaws.{between-true, true-between, both-hold}
 use Rattle.typed.specs.Classes.{held, holds, listed, isUpper, isLower, isDigit, isPunct, isAlpha, isAlnum, isGraph, isPrint, ByteOf, said, Rising, Fewest, In, title}
 use Rattle.typed.specs.Classes.In.{first, later}

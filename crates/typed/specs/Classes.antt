@@ -13,7 +13,7 @@ use Rattle.typed.specs.Sets.{Set, Span, spans}
 use Rattle.typed.specs.Sets.Set.{alnum, alpha, blank, cntrl, digit, graph, lower, print, punct, space, upper, xdigit}
 use Rattle.typed.specs.Sets.Span.{span}
 use Rattle.typed.specs.Spells.{between}
-use Rattle.typed.specs.Quoted.{quoted}
+use Rattle.number.specs.Quoted.{quoted}
 
 -- one of the ranges holds the byte
 unfoldable pub held : List Span → ℕ → Bool

@@ -1,5 +1,5 @@
 -- Rules typed as text. Definitions, in reading order: Sets, Exp, Spells, Lines; then what is computed: Scan, Reader, LineReader, Calls;
--- then what the theorems say: Bought, Quoted, Classes, Worked. Main has the theorems; the other files prove them.
+-- then what the theorems say: Bought, Classes, Worked. Main has the theorems; the other files prove them.
 pub mod Sets
 pub mod Exp
 pub mod Spells
@@ -9,7 +9,6 @@ pub mod Reader
 pub mod LineReader
 pub mod Calls
 pub mod Bought
-pub mod Quoted
 pub mod Classes
 pub mod Worked
 pub mod TestLaws

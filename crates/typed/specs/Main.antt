@@ -1,5 +1,5 @@
 -- The theorems of rules typed as text that are bought, together; each is proved in the file that its proof names.
--- To believe them, read only definitions: Sets, Exp, Spells, Lines, Calls, Bought, Quoted, Classes, Worked, those of number, meaning and book that they name, and table's Output.
+-- To believe them, read only definitions: Sets, Exp, Spells, Lines, Calls, Bought, Classes, Worked, those of number, meaning and book that they name, and table's Output.
 use Prim.Native.Nat.{ℕ, _+_, _-_, _≤_, _<_}
 use native.Mathlib.Omega.{arith}
 use mathlib.Core.Path.{_≡_, refl, sym, ap, _∙_}
@@ -35,7 +35,7 @@ use Rattle.typed.specs.Calls.{bookOf, bookBytes, putBook, typeOf}
 use Rattle.typed.specs.Bought.{InLimits, TypedBook, OutOfRange, OneOf, Call}
 use Rattle.typed.specs.Bought.OneOf.{a-book, out-of-range, wrongly-typed}
 use Rattle.typed.specs.Bought.Call.{no-room, refused, given}
-use Rattle.typed.specs.Quoted.{quoted}
+use Rattle.number.specs.Quoted.{quoted}
 use Rattle.typed.specs.Classes.{holds, ByteOf, said, Rising, Fewest, In, spansOf, title}
 use Rattle.typed.specs.Worked.{EachHolds, cases}
 use Rattle.typed.specs.SpelledIsRead.{spelled-reads}

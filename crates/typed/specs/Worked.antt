@@ -9,7 +9,7 @@ use Rattle.number.specs.Refused.Row.{row}
 use Rattle.number.specs.Refused.Outcome.{gives}
 use Rattle.book.specs.Sample.{wBytes}
 use Rattle.typed.specs.Calls.{bookBytes}
-use Rattle.typed.specs.Quoted.{quoted, again}
+use Rattle.number.specs.Quoted.{quoted, again}
 
 -- a text and the bytes of its book; a text, and the number and place of its refusal
 pub data Case : Type 0 where

@@ -20,7 +20,7 @@ use Rattle.typed.specs.Scan.{scan}
 use Rattle.typed.specs.Lines.{digit}
 use Rattle.typed.specs.LineReader.{begins, colon, onDigit, ends, stepped, turn, accept, readLines}
 use Rattle.typed.specs.Calls.{bookOf, outOf, fault, startOf, ranged, answered, bookBytes}
-use Rattle.typed.specs.Quoted.{quoted, again}
+use Rattle.number.specs.Quoted.{quoted, again}
 use Rattle.typed.specs.TestLaws.{both-hold}
 use Rattle.typed.specs.Worked.{Case, Holds, EachHolds, cases}
 use Rattle.typed.specs.Worked.Case.{Given, Refused}

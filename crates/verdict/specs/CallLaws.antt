@@ -1,6 +1,6 @@
 -- The steps to the theorems of Main on the call: Room, Loaded, the book's refusal and the walk's, in this order, and what each leaves.
 -- Also that a shown text is the only one, and what the call says of the memory that its book's own build left.
-use Prim.Native.Nat.{ℕ, _*_, _-_}
+use Prim.Native.Nat.{ℕ, _-_}
 use mathlib.Core.Path.{_≡_, refl, sym, ap, subst, _∙_}
 use mathlib.Core.Bool.{Bool, true, false, cond, _||_}
 use mathlib.Core.List.{List}
@@ -8,11 +8,11 @@ use mathlib.Core.Logic.{inl, inr}
 use native.Mathlib.Omega.{arith}
 use borrow.Author.Tests.{lt-ltb, le-ltb}
 use lib.Dec.{ltb}
-use lib.ListN.{length, take, replicate}
+use lib.ListN.{length, take, replicate, length-append, length-replicate}
 use lib.Seq.{take-at, drop-at}
 use Rattle.number.specs.declared.Refusal.{Refusal}
 use Rattle.number.specs.declared.Refusal.the-variants.{Loaded, Room}
-use Rattle.number.specs.Limits.{bytes, shownText}
+use Rattle.number.specs.Limits.{shownText}
 use Rattle.number.specs.Refused.{Outcome, rowOf}
 use Rattle.number.specs.Refused.Answer.{got, refused}
 use Rattle.number.specs.Refused.Outcome.{gives, refuses}
@@ -24,7 +24,7 @@ use Rattle.book.specs.Reads.{readBook}
 use Rattle.book.specs.Expression.{meant}
 use Rattle.table.specs.Table.{Table, lent, wellFormed}
 use Rattle.table.specs.Calls.{padded, cramped}
-use Rattle.table.specs.Formed.{Formed}
+use Rattle.table.specs.SheetCalls.{filled-has-table}
 use Rattle.cutting.specs.Steps.{labelOf}
 use Rattle.vector.specs.Layout.{workLength}
 use Rattle.walk.specs.Texts.{NotLater}
@@ -55,7 +55,9 @@ module _ (rs : List Re) (t : Table) where
 
   pub text-one : (u v : Text) (x y z w : ℕ) → Differ rs t u x y → Differ rs t v z w → OneText u v x y z w
   text-one u v x y z w d e =
-      let same-text : u ≡ v = both-ways u v (d .first-label v (e .is-text) (e .some) (not-agreed v z w e)) (e .first-label u (d .is-text) (d .some) (not-agreed u x y d)) in
+      let first = d .first-label v (e .is-text) (e .some) (not-agreed v z w e) in
+      let second = e .first-label u (d .is-text) (d .some) (not-agreed u x y d) in
+      let same-text : u ≡ v = both-ways u v first second in
       record {
         one-text = same-text;
         one-book = names-one rs v x z (rw same-text at (d .by-book)) (e .by-book);
@@ -79,17 +81,19 @@ not-same e = let z : _≡_ {A = ℕ} 0 1 = cc in omega arith
 not-told : {r : Refusal} {u : Told} → _≡_ {A = Outcome Told} (refuses r) (gives u) → ⊥
 not-told e = let z : _≡_ {A = ℕ} 0 1 = cc in omega arith
 
-module _ (file : List ℕ) (b : Book) (after : ℕ) (t : Table) (read : readBook file ≡ got b after) (area work : List ℕ) where
+module _ (file : List ℕ) (b : Book) (after : ℕ) (t : Table) (read : readBook file ≡ got b after) (area work : List ℕ) (room : Roomy area work) where
   abbrev rs : List Re
   rs = meant b
 
   shows : (text : Text) (x y : ℕ) → Differ rs t text x y → Shows rs t (length text) x y area (padded (length area) text)
   shows text x y d =
-      let e : take (length text) (padded (length area) text) ≡ text = take-at text (replicate (length area - length text) 0) (length text) refl in
+      let zeros : List ℕ = replicate (length area - length text) 0 in
+      let e : take (length text) (padded (length area) text) ≡ text = take-at text zeros (length text) refl in
       record {
         enough = ap length e;
         differ = rw e d;
-        rest = drop-at text (replicate (length area - length text) 0) (length text) refl;
+        rest = drop-at text zeros (length text) refl;
+        whole = omega (arith, length-append text zeros, length-replicate {A = ℕ} (length area - length text) 0, d .short, room .for-text);
       }
 
   limits-of : (o : Outcome Verdict) → compareBook file t ≡ o → Limits (heldPairs rs t) (rowOf o)
@@ -172,7 +176,7 @@ module _ (file : List ℕ) (s : ℕ) (labels targets area work : List ℕ) where
     pub call-answered : wellFormed s labels targets ≡ true → (b : Book) (after : ℕ) → readBook file ≡ got b after
         → Answered (meant b) (lent s labels targets) area work call
     call-answered e b after d =
-        rw (well-formed e) (answers-in file b after (lent s labels targets) d area work (compareBook file (lent s labels targets)) refl)
+        rw (well-formed e) (answers-in file b after (lent s labels targets) d area work room (compareBook file (lent s labels targets)) refl)
 
     -- a table that is found the same
     pub call-same : wellFormed s labels targets ≡ true → compareBook file (lent s labels targets) ≡ gives Same
@@ -186,13 +190,6 @@ count-same e = cc
 
 no-count : {r : Refusal} {n : ℕ} → _≡_ {A = Outcome ℕ} (refuses r) (gives n) → ⊥
 no-count e = let z : _≡_ {A = ℕ} 0 1 = cc in omega arith
-
--- a table at the front of its area is the table that is lent
-lent-padded : (u : Table) (n m k : ℕ) → Formed u → u .count ≡ k → lent k (padded n (u .labels)) (padded m (u .targets)) ≡ u
-lent-padded u n m k f e =
-    let p = take-at (u .labels) (replicate (n - length (u .labels)) 0) (u .count) (f .labelled) in
-    let q = take-at (u .targets) (replicate (m - length (u .targets)) 0) (u .count * bytes) (f .filled) in
-    subst (λ (c : ℕ). lent c (padded n (u .labels)) (padded m (u .targets)) ≡ u) e (λ i. record { count = u .count; labels = p i; targets = q i })
 
 module _ (file labels targets scratch : List ℕ) (n : ℕ) (e : buildOf file labels targets scratch .table .answer ≡ gives n) where
   abbrev made : Building
@@ -212,7 +209,8 @@ module _ (file labels targets scratch : List ℕ) (n : ℕ) (e : buildOf file la
       filled (gives u) d c =
           let left = the-call file labels targets scratch n e in
           let formed = the-build file (left .book) (left .after) u (left .read) d .formed in
-          ap gives (sym (lent-padded u (length labels) (length targets) n formed (count-same c)))
+          ap gives (subst (λ (k : ℕ). u ≡ lent k (padded (length labels) (u .labels)) (padded (length targets) (u .targets))) (count-same c)
+          (sym (filled-has-table u labels targets formed)))
 
       go : (b : Bool) → built b .table .answer ≡ gives n → buildBook file ≡ gives (lent n (built b .table .labels) (built b .table .targets))
       go true d = absurd (no-count d)

@@ -32,11 +32,12 @@ pub record Refuses (r : Refusal) (area work : List ℕ) (c : Comparison) : Type 
   pub text-blank : c .text ≡ replicate (length area) 0
   pub work-blank : c .work ≡ replicate (length work) 0
 
--- after Differs: the n bytes at the front of the area are the shown text, with these labels, and the rest of it is 0
+-- after Differs: the n bytes at the front of the area are the shown text, with these labels, and the rest of it is 0; the area is as long as it was
 pub record Shows (rs : List Re) (t : Table) (n x y : ℕ) (area text : List ℕ) : Type 0 where
   pub enough : length (take n text) ≡ n
   pub differ : Differ rs t (take n text) x y
   pub rest : drop n text ≡ replicate (length area - n) 0
+  pub whole : length text ≡ length area
 
 -- whatever the call answers of a book that is read and a table, it is right, and what is right is answered
 pub record Answered (rs : List Re) (t : Table) (area work : List ℕ) (c : Comparison) : Type 0 where

@@ -31,7 +31,7 @@ use Rattle.verdict.specs.Demand.{CutAlike, WholeAlike, Differ, heldPairs
 use Rattle.verdict.specs.Called.{Roomy, Short, Refuses, Answered, OneText}
 use Rattle.verdict.specs.VerdictLaws.{book-cut, same-alike, same-exactly, shown-differs, limits-at, wider-answered, wider-long, own-table}
 use Rattle.verdict.specs.CallLaws.{text-one, short-room, ill-formed, book-refused, call-answered, own-call}
-use Rattle.verdict.specs.Sample.{answersOfW, statedOfW, worked-w, answers, stated, refusals, rows, worked-answers, worked-refusals}
+use Rattle.verdict.specs.Sample.{WorkedSheets, worked-sheets, WorkedAnswers, worked-answers, WorkedRefusals, worked-refusals}
 
 -- a text has exactly one cut by a book's rules, as it has by a table (cutting, the-cut)
 pub the-book-cut : (rs : List Re) (room at : ℕ) (text : Text) (x : Cut) → Cuts (FirstWord rs) room at text x ↔ (cutBy (firstWord rs) room at text ≡ x)
@@ -110,12 +110,12 @@ the-answers = refl
 -- ---- computed by the checker
 
 -- document 01's two comparisons of W: against its own table, and against that table with state 5 merged into state 4
-pub the-worked-sheets : answersOfW ≡ statedOfW
-the-worked-sheets = worked-w
+pub the-worked-sheets : WorkedSheets
+the-worked-sheets = worked-sheets
 
 -- other answers, and refusals by row and place
-pub the-worked-answers : answers ≡ stated
+pub the-worked-answers : WorkedAnswers
 the-worked-answers = worked-answers
 
-pub the-worked-refusals : refusals ≡ rows
+pub the-worked-refusals : WorkedRefusals
 the-worked-refusals = worked-refusals

@@ -8,7 +8,7 @@ use native.Mathlib.Omega.{arith}
 use lib.Dec.{eqb}
 use lib.ListN.{replicate}
 use Rattle.number.specs.Limits.{pairs, pool}
-use Rattle.number.specs.Refused.{Outcome, Row, rowOf}
+use Rattle.number.specs.Refused.{Outcome, rowOf}
 use Rattle.number.specs.Refused.Outcome.{gives, refuses}
 use Rattle.number.specs.Refused.Row.{row}
 use Rattle.meaning.specs.Sample.{W}
@@ -97,11 +97,8 @@ abc = Cat a (Cat b c)
 -- ---- answers
 
 -- document 01's two comparisons of W
-abbrev pub answersOfW : List (Outcome Verdict)
-answersOfW = own unchanged W ∷ own (merged 5 4) W ∷ []
-
-abbrev pub statedOfW : List (Outcome Verdict)
-statedOfW = gives Same ∷ gives (Differs (116 ∷ 111 ∷ []) 1 2) ∷ []
+abbrev pub WorkedSheets : Type 0
+WorkedSheets = (own unchanged W ≡ gives Same) × (own (merged 5 4) W ≡ gives (Differs (116 ∷ 111 ∷ []) 1 2))
 
 -- W builds, and a table that is built is found the same
 states-w : countOf (buildRules W) ≡ 7
@@ -119,77 +116,48 @@ merged-w : own (merged 5 4) W ≡ gives (Differs (116 ∷ 111 ∷ []) 1 2)
 unfolding compareRules firstDiffering buildRules walkFrom walkRows walkRow step come numberIn withVector withParts withTerm holds sameVector derived normalised labelFrom derivFit normalFit deriv nullable normal star alt nested sorted placed kept gathered cat chain order size
 merged-w = refl
 
-pub worked-w : answersOfW ≡ statedOfW
-worked-w = λ i. own-w i ∷ merged-w i ∷ []
+pub worked-sheets : WorkedSheets
+worked-sheets = (own-w, merged-w)
 
--- other rules
-abbrev pub answers : List (Outcome Verdict)
-answers =
+abbrev pub WorkedAnswers : Type 0
+WorkedAnswers =
     -- no text leads back to the start of a rule `a`, so its label does not matter; `ab` leads back to that of (ab)*, and `a` to that of a*
-    own (labelled (1 ∷ 0 ∷ 1 ∷ [])) (a ∷ []) ∷
-    own (labelled (0 ∷ 0 ∷ 0 ∷ [])) (Star (Cat a b) ∷ []) ∷
-    own (labelled (0 ∷ 0 ∷ [])) (Star a ∷ []) ∷
+    (own (labelled (1 ∷ 0 ∷ 1 ∷ [])) (a ∷ []) ≡ gives Same)
+    × (own (labelled (0 ∷ 0 ∷ 0 ∷ [])) (Star (Cat a b) ∷ []) ≡ gives (Differs (97 ∷ 98 ∷ []) 1 0))
+    × (own (labelled (0 ∷ 0 ∷ [])) (Star a ∷ []) ≡ gives (Differs (97 ∷ []) 1 0))
     -- a rule that the empty text alone matches
-    compareRules (flat 0) (Empty ∷ []) ∷
+    × (compareRules (flat 0) (Empty ∷ []) ≡ gives Same)
     -- other states and targets than our build's are no difference
-    compareRules exchanged (every ∷ []) ∷
+    × (compareRules exchanged (every ∷ []) ≡ gives Same)
     -- a label above the rules is an ordinary one, and differs
-    compareRules (flat 2) (every ∷ []) ∷
-    compareRules (flat 32) (Empty ∷ []) ∷
+    × (compareRules (flat 2) (every ∷ []) ≡ gives (Differs (0 ∷ []) 1 2))
+    × (compareRules (flat 32) (Empty ∷ []) ≡ gives (Differs (0 ∷ []) 0 32))
     -- the shorter text, though its byte is higher and its rule later; of two texts of one length, the lower
-    compareRules (flat 0) (Cat a a ∷ b ∷ []) ∷
-    compareRules (flat 0) (b ∷ a ∷ []) ∷
-    -- as many pairs and terms as there are
-    compareRulesTo 3 pool (flat 0) (Star (Cat a b) ∷ []) ∷
-    compareRulesTo pairs 7 (flat 0) (abc ∷ []) ∷
-    []
+    × (compareRules (flat 0) (Cat a a ∷ b ∷ []) ≡ gives (Differs (98 ∷ []) 2 0))
+    × (compareRules (flat 0) (b ∷ a ∷ []) ≡ gives (Differs (97 ∷ []) 2 0))
+    -- just as many pairs, or terms, as there are
+    × (compareRulesTo 3 pool (flat 0) (Star (Cat a b) ∷ []) ≡ gives (Differs (97 ∷ 98 ∷ []) 1 0))
+    × (compareRulesTo pairs 7 (flat 0) (abc ∷ []) ≡ gives (Differs (97 ∷ 98 ∷ 99 ∷ []) 1 0))
 
-abbrev pub stated : List (Outcome Verdict)
-stated =
-    gives Same ∷
-    gives (Differs (97 ∷ 98 ∷ []) 1 0) ∷
-    gives (Differs (97 ∷ []) 1 0) ∷
-    gives Same ∷
-    gives Same ∷
-    gives (Differs (0 ∷ []) 1 2) ∷
-    gives (Differs (0 ∷ []) 0 32) ∷
-    gives (Differs (98 ∷ []) 2 0) ∷
-    gives (Differs (97 ∷ []) 2 0) ∷
-    gives (Differs (97 ∷ 98 ∷ []) 1 0) ∷
-    gives (Differs (97 ∷ 98 ∷ 99 ∷ []) 1 0) ∷
-    []
-
-pub worked-answers : answers ≡ stated
+pub worked-answers : WorkedAnswers
 unfolding compareRules firstDiffering buildRules walkFrom walkRows walkRow step come numberIn withVector withParts withTerm holds sameVector derived normalised labelFrom derivFit normalFit deriv nullable normal star alt nested sorted placed kept gathered cat chain order size
-worked-answers = refl
+worked-answers = (refl, refl, refl, refl, refl, refl, refl, refl, refl, refl, refl)
 
--- ---- refusals
+-- ---- refusals, by row and place
 
-abbrev pub refusals : List Row
-refusals =
+abbrev pub WorkedRefusals : Type 0
+WorkedRefusals =
     -- the rules themselves are too long; so is a derivative two pairs later, where the start has come back and keeps number 0
-    rowOf (compareRules (flat 0) (a ∷ longRule ∷ [])) ∷
-    rowOf (compareRules (flat 0) (longLater ∷ [])) ∷
+    (rowOf (compareRules (flat 0) (a ∷ longRule ∷ [])) ≡ row 6 0)
+    × (rowOf (compareRules (flat 0) (longLater ∷ [])) ≡ row 6 2)
     -- a pair too many: when the start comes back, from the start itself and from pair 2
-    rowOf (compareRulesTo 1 pool (flat 0) (Star a ∷ [])) ∷
-    rowOf (compareRulesTo 2 pool (flat 0) (Star (Cat a b) ∷ [])) ∷
+    × (rowOf (compareRulesTo 1 pool (flat 0) (Star a ∷ [])) ≡ row 12 0)
+    × (rowOf (compareRulesTo 2 pool (flat 0) (Star (Cat a b) ∷ [])) ≡ row 12 2)
     -- a term too many: in vector 0, and with Empty after abc; there a pair too many comes before it
-    rowOf (compareRulesTo pairs 4 (flat 0) (abc ∷ [])) ∷
-    rowOf (compareRulesTo pairs 6 (flat 0) (abc ∷ [])) ∷
-    rowOf (compareRulesTo 3 6 (flat 0) (abc ∷ [])) ∷
-    []
+    × (rowOf (compareRulesTo pairs 4 (flat 0) (abc ∷ [])) ≡ row 7 0)
+    × (rowOf (compareRulesTo pairs 6 (flat 0) (abc ∷ [])) ≡ row 7 3)
+    × (rowOf (compareRulesTo 3 6 (flat 0) (abc ∷ [])) ≡ row 12 3)
 
-abbrev pub rows : List Row
-rows =
-    row 6 0 ∷
-    row 6 2 ∷
-    row 12 0 ∷
-    row 12 2 ∷
-    row 7 0 ∷
-    row 7 3 ∷
-    row 12 3 ∷
-    []
-
-pub worked-refusals : refusals ≡ rows
+pub worked-refusals : WorkedRefusals
 unfolding compareRules firstDiffering buildRules walkFrom walkRows walkRow step come numberIn withVector withParts withTerm holds sameVector derived normalised labelFrom derivFit normalFit deriv nullable normal star alt nested sorted placed kept gathered cat chain order size
-worked-refusals = refl
+worked-refusals = (refl, refl, refl, refl, refl, refl, refl)

@@ -97,7 +97,8 @@ unfolding fronts
 fronts-long f [] e = absurd (no-terms (sym e))
 fronts-long f (r ∷ rs) e = go (f r) refl (fronts f rs) refl (fronts-long f rs) e
   where
-    go : (x : Fit) → f r ≡ x → (v : Vector) → fronts f rs ≡ v → (fronts f rs ≡ TooLong → SomeLong f rs) → front x v ≡ TooLong → SomeLong f (r ∷ rs)
+    go : (x : Fit) → f r ≡ x → (v : Vector) → fronts f rs ≡ v → (fronts f rs ≡ TooLong → SomeLong f rs) → front x v ≡ TooLong
+        → SomeLong f (r ∷ rs)
     go Fit·long d v g ih h = (0, omega arith, d)
     go (Fits x) d TooLong g ih h = let (k, l, m) = ih g in (suc k, omega arith, m)
     go (Fits x) d (Terms v) g ih h = absurd (no-terms (sym h))
@@ -328,12 +329,14 @@ module _ (way : Way) (rs : List Re) (h : Held) where
       }
 
 module _ (way : Way) (rs : List Re) where
-  underway-halts : (h : Held) (i c : ℕ) (r : Refusal) → i < length (h .items) → c < bytes → Underway way rs i c h → step way i h c ≡ stopped r → Halts way rs r
+  underway-halts : (h : Held) (i c : ℕ) (r : Refusal) → i < length (h .items) → c < bytes → Underway way rs i c h
+      → step way i h c ≡ stopped r → Halts way rs r
   underway-halts h i c r l b u e =
       Halts·later h i c l b (items-of way rs h (u .good) (u .pooled)) (u .ahead l)
       (λ w k s. let (j, a) = arrived-sooner way rs i c h u l w k s in (j, leads-to way rs h w j a)) e
 
-  halt-step : (i c : ℕ) (h : Held) → i < length (h .items) → c < bytes → Underway way rs i c h → StepIs (Underway way rs i (suc c)) (Halts way rs) (step way i h c)
+  halt-step : (i c : ℕ) (h : Held) → i < length (h .items) → c < bytes → Underway way rs i c h
+      → StepIs (Underway way rs i (suc c)) (Halts way rs) (step way i h c)
   halt-step i c h l b u = go (step way i h c) refl (step-met way rs i c h l b u)
     where
       go : (s : Step) → step way i h c ≡ s → StepIs (Underway way rs i (suc c)) (Met way rs) s → StepIs (Underway way rs i (suc c)) (Halts way rs) s

@@ -1,7 +1,7 @@
 -- `advice::advise_unsaved` meets its contract: its one sentence.
 -- Assumes nothing.
 use native.Mathlib.Omega.{arith}
-use Rattle.typed.specs.Quoted.{quoted}
+use Rattle.number.specs.Quoted.{quoted}
 use Rattle.advised.specs.Advice.{unsaved}
 use borrow.Author.Needs.{needs}
 use Rattle.advice.proofs.advise_unsaved.Statement.{statement}

@@ -2,7 +2,7 @@
 -- Assumes nothing.
 use native.Mathlib.Omega.{arith}
 use mathlib.Core.Path.{refl, sym, ap, _∙_}
-use Rattle.typed.specs.Quoted.{quoted}
+use Rattle.number.specs.Quoted.{quoted}
 use Rattle.advised.specs.Advice.{adviceOn}
 use Rattle.phrases.specs.WriteLaws.{writes-as}
 use Rattle.advised.specs.CaseLaws.{typed-outside, typed-inside, range-none, range-outside, range-inside}

@@ -1,7 +1,7 @@
 -- `paragraphs::put_unread` meets its contract: a phrase and its end.
 -- Assumes nothing.
 use native.Mathlib.Omega.{arith}
-use Rattle.typed.specs.Quoted.{quoted}
+use Rattle.number.specs.Quoted.{quoted}
 use Rattle.advised.specs.Advice.{overFile, inBytes}
 use Rattle.phrases.specs.Left.{left-room, left-step, left-last}
 use Rattle.paragraphs.specs.PartLaws.{unread-all}

@@ -1,7 +1,7 @@
 -- `phrases::put_fault` meets its contract: one sentence a way.
 -- Assumes nothing.
 use mathlib.Core.Path.{refl}
-use Rattle.typed.specs.Quoted.{quoted}
+use Rattle.number.specs.Quoted.{quoted}
 use Rattle.phrases.specs.WriteLaws.{writes-as, room-as, fault-end, fault-byte}
 use borrow.Author.Needs.{needs}
 use Rattle.phrases.proofs.put_fault.Statement.{statement}

@@ -3,7 +3,7 @@
 use borrow.Author.Needs.{needs}
 use native.Mathlib.Omega.{arith}
 use mathlib.Core.Path.{refl}
-use Rattle.typed.specs.Quoted.{quoted}
+use Rattle.number.specs.Quoted.{quoted}
 use Rattle.phrases.specs.WriteLaws.{writes-as, room-as, name-space, name-newline, name-other}
 use Rattle.phrases.proofs.put_name.Statement.{statement}
 use Rattle.phrases.proofs.put_name.Tie as tie

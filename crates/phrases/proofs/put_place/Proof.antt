@@ -1,6 +1,6 @@
 -- `phrases::put_place` meets its contract: a phrase for the line, one for the column.
 -- Assumes nothing.
-use Rattle.typed.specs.Quoted.{quoted}
+use Rattle.number.specs.Quoted.{quoted}
 use Rattle.advised.specs.Advice.{phrase}
 use Rattle.phrases.specs.Left.{left-room, left-step, left-last}
 use Rattle.phrases.specs.WriteLaws.{place-all}

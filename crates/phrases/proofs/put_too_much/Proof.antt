@@ -1,7 +1,7 @@
 -- `phrases::put_too_much` meets its contract: three phrases and an end.
 -- Assumes nothing.
 use mathlib.Core.List.{_++_}
-use Rattle.typed.specs.Quoted.{quoted}
+use Rattle.number.specs.Quoted.{quoted}
 use Rattle.advised.specs.Advice.{overRules, overKinds, overNodes, inAll}
 use Rattle.phrases.specs.Left.{left-room, left-step, left-last}
 use Rattle.phrases.specs.WriteLaws.{too-much}
