@@ -50,8 +50,8 @@ module _ (file : List ℕ) (b : Book) (after : ℕ) (t : Table) (read : readBook
   pub the-difference : (text : Text) (x y : ℕ) → compareBook file t ≡ gives (Differs text x y) → Differ (meant b) t text x y
   the-difference = shown-differs file b after t read
 
-  -- it declines exactly where a limit is passed, by the first text that passes one: the row of its refusal and the place, which is the number of the
-  -- pair that this text leaves; and it answers exactly where no text does
+  -- it declines exactly where a limit is passed, by the first text that passes one: Long, Pairs or Pool, tested in this order, by row and place.
+  -- The place is the number of the pair that this text leaves, which is one (walk, the-number); and it answers exactly where no text passes a limit
   pub the-limits : Limits (heldPairs (meant b) t) (rowOf (compareBook file t))
   the-limits = limits-at file b after t read
 
