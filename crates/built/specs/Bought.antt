@@ -6,6 +6,7 @@ use mathlib.Core.Bool.{true}
 use mathlib.Core.List.{List}
 use lib.ListN.{length, replicate}
 use Rattle.number.specs.declared.Refusal.{Refusal}
+use Rattle.number.specs.Limits.{states, tableCells}
 use Rattle.number.specs.Numbers.{Bytes}
 use Rattle.number.specs.Refused.Answer.{got}
 use Rattle.meaning.specs.Re.{Text}
@@ -20,6 +21,7 @@ use Rattle.table.specs.Areas.{LeavesTable, LeavesZeros, LeavesAll}
 use Rattle.table.specs.Sheet.{readSheet, writeSheet}
 use Rattle.cutting.specs.Steps.{labelOf, firstBy}
 use Rattle.cutting.specs.Cut.{Cuts, cutBy}
+use Rattle.vector.specs.Layout.{workLength}
 use Rattle.built.specs.Calls.{Building}
 
 -- a table that was built from a book: what is true of it
@@ -42,11 +44,11 @@ pub record Left (file : List ℕ) (s : ℕ) (labels targets : List ℕ) : Type 0
 
 -- ---- the areas of a call
 
--- there is room: 255 labels, 65,280 targets and the 63,011 cells of the work area
+-- there is room: labels and targets for all states that there may be, and the cells of the work area
 pub record HasRoom (labels targets work : List ℕ) : Type 0 where
-  pub all-labels : 255 ≤ length labels
-  pub all-targets : 65280 ≤ length targets
-  pub all-work : 63011 ≤ length work
+  pub all-labels : states ≤ length labels
+  pub all-targets : tableCells ≤ length targets
+  pub all-work : workLength ≤ length work
 
 -- a table was built: it stands in the table area with 0 behind it, and the work area is all 0
 pub record BuildsTable (labels₀ targets₀ work₀ : List ℕ) (t : Table) (x : Building) : Type 0 where

@@ -7,7 +7,7 @@ use native.Mathlib.Omega.{arith}
 use lib.ListN.{length}
 use Rattle.number.specs.declared.Refusal.{Refusal}
 use Rattle.number.specs.declared.Refusal.the-variants.{Long}
-use Rattle.number.specs.Limits.{states, pool}
+use Rattle.number.specs.Limits.{states, tableCells, pool}
 use Rattle.number.specs.Refused.{rowOf}
 use Rattle.number.specs.Refused.Answer.{got, refused}
 use Rattle.number.specs.Refused.Outcome.{gives, refuses}
@@ -72,13 +72,13 @@ module _ (file labels targets work : List ℕ) where
     the-unbuilt-call = call-unbuilt file labels targets work room
 
   -- a short area is Room, whatever the book is, and nothing changes
-  pub the-short-labels : length labels < 255 → ChangesNothing labels targets work (buildOf file labels targets work)
+  pub the-short-labels : length labels < states → ChangesNothing labels targets work (buildOf file labels targets work)
   the-short-labels = call-few-labels file labels targets work
 
-  pub the-short-targets : length targets < 65280 → ChangesNothing labels targets work (buildOf file labels targets work)
+  pub the-short-targets : length targets < tableCells → ChangesNothing labels targets work (buildOf file labels targets work)
   the-short-targets = call-few-targets file labels targets work
 
-  pub the-short-work : length work < 63011 → ChangesNothing labels targets work (buildOf file labels targets work)
+  pub the-short-work : length work < workLength → ChangesNothing labels targets work (buildOf file labels targets work)
   the-short-work = call-short-work file labels targets work
 
 -- ---- limits
@@ -88,11 +88,6 @@ module _ (rs : List Re) where
   -- The place is the number of the state that this text leaves, 0 for vector 0; and it succeeds exactly where no text passes a limit
   pub the-limits : Limits (heldStates rs) (rowOf (buildRules rs))
   the-limits = build-limits rs
-
-  -- the numbers of states and terms that are allowed
-  pub the-allowed : buildRules rs ≡ buildRulesTo 255 2048 rs
-  unfolding buildRules
-  the-allowed = refl
 
 -- builds with small limits, each with the row of the refusals and the place that it comes to
 pub the-refused-builds : map (λ (x : Line). rowOf (buildRulesTo (x .most) (x .terms) (x .rules))) refusedLines ≡ map (λ (x : Line). x .comes) refusedLines
