@@ -14,7 +14,7 @@ use Rattle.meaning.specs.Re.{Text}
 use Rattle.typed.specs.Calls.{bookBytes}
 use Rattle.number.specs.Quoted.{quoted}
 use Rattle.rules_book.specs.Print.{rulesBytes}
-use Rattle.advised.specs.Advice.{startAt, couldStand, adviceOf, adviceRoom}
+use Rattle.advised.specs.Advice.{startAt, couldStand, unsaved, adviceOf, adviceRoom}
 use Rattle.advised.specs.Bought.{Begins, StartOfLine, Told}
 use Rattle.advised.specs.Sample.{EachHolds, cases}
 use Rattle.advised.specs.CaseLaws.{untold}
@@ -47,6 +47,11 @@ the-told-texts = told-texts
 pub the-unread-file : (text : Text) (r : Refusal) → rulesFile < length text
     → adviceOf text r ≡ quoted "words.rules cannot be read, or has more than 32768 bytes.\n"
 the-unread-file = unread-file
+
+-- and where the book of a right text cannot be written
+pub the-unsaved-book : unsaved ≡ quoted "words.book cannot be written.\n"
+unfolding unsaved
+the-unsaved-book = refl
 
 -- of refusals that typing never answers nothing is told, nor of a place outside the text
 pub the-silence : (text : Text) (p : ℕ) → 0 < length text → length text ≤ rulesFile

@@ -1,12 +1,13 @@
 -- Files that are no books, each with the number and the place of its refusal as document 01's table has them; books that are read stand beside them.
 -- Every field, every row that reading a book can give, every rule of place and of order; the checker computes the whole list.
-use Prim.Native.Nat.{ℕ, zero, suc}
+use Prim.Native.Nat.{ℕ}
 use mathlib.Core.Path.{_≡_, refl}
 use mathlib.Core.List.{List, [], _∷_, _++_, map}
 use lib.ListN.{take, replicate}
 use Rattle.number.specs.Numbers.{due, several, readNumber, within, field}
 use Rattle.number.specs.Refused.{Row, rowRead}
 use Rattle.number.specs.Refused.Row.{noRow, row}
+use Rattle.number.specs.Sample.{repeated}
 use Rattle.book.specs.Reads.{readAfter, readNode, readNodes, readRules, book, readBook}
 use Rattle.book.specs.Sample.{wBytes}
 
@@ -19,11 +20,6 @@ stated (line r file) = r
 
 abbrev pub told : Line → Row
 told (line r file) = rowRead (readBook file)
-
--- the same bytes so many times
-unfoldable pub repeated : ℕ → List ℕ → List ℕ
-repeated zero bytes = []
-repeated (suc n) bytes = bytes ++ repeated n bytes
 
 unfoldable pub lines : List Line
 lines =

@@ -1,5 +1,5 @@
 -- The theorems of building that are bought, together; each is proved in the file that its proof names, or computed there or here.
--- To believe them, read the definitions: Build, Calls, Bought and States here, Areas in table, Walk, Vectors, Parts and Passing in walk, and those that they stand on.
+-- To believe them, read the definitions: Build, Calls, Bought, States, Refused and Sample here, Areas in table, Sample in cutting, Walk, Vectors, Parts and Passing in walk, and those that they stand on.
 use Prim.Native.Nat.{ℕ, _≤_, _<_}
 use mathlib.Core.Path.{_≡_, refl}
 use mathlib.Core.List.{List, map}
@@ -7,7 +7,7 @@ use native.Mathlib.Omega.{arith}
 use lib.ListN.{length}
 use Rattle.number.specs.declared.Refusal.{Refusal}
 use Rattle.number.specs.declared.Refusal.the-variants.{Long}
-use Rattle.number.specs.Limits.{states, tableCells, pool}
+use Rattle.number.specs.Limits.{states, tableCells, pool, workCells}
 use Rattle.number.specs.Refused.{rowOf}
 use Rattle.number.specs.Refused.Answer.{got, refused}
 use Rattle.number.specs.Refused.Outcome.{gives, refuses}
@@ -19,9 +19,10 @@ use Rattle.book.specs.Sample.{wBytes}
 use Rattle.table.specs.Table.{Table}
 use Rattle.table.specs.Sheet.{readSheet, writeSheet}
 use Rattle.cutting.specs.Sample.{tableW}
+use Rattle.walk.specs.Bought.{OwnRefusal}
 use Rattle.walk.specs.Passing.{Limits}
 use Rattle.vector.specs.Layout.{workLength}
-use Rattle.built.specs.Build.{buildRulesTo, buildRules}
+use Rattle.built.specs.Build.{alone, buildRulesTo, buildRules}
 use Rattle.built.specs.Calls.{buildBook, buildOf}
 use Rattle.built.specs.Bought.{Right, Left, HasRoom, BuildsTable, BuildsNone, ChangesNothing}
 use Rattle.built.specs.States.{heldStates, HasStates}
@@ -53,7 +54,7 @@ pub the-call : (file labels targets work : List ℕ) (s : ℕ) → buildOf file 
 the-call = call-left
 
 -- the areas that it asks for: the work area's length, and that it is not above the paper's
-pub the-areas : (workLength ≡ 63011) × (workLength ≤ 65536)
+pub the-areas : (workLength ≡ 63011) × (workLength ≤ workCells)
 the-areas = (refl, omega arith)
 
 module _ (file labels targets work : List ℕ) where
@@ -88,6 +89,14 @@ module _ (rs : List Re) where
   -- The place is the number of the state that this text leaves, 0 for vector 0; and it succeeds exactly where no text passes a limit
   pub the-limits : Limits (heldStates rs) (rowOf (buildRules rs))
   the-limits = build-limits rs
+
+-- its walk's own refusal is neither Long nor Pool, so that walk's `the-stops` tells where each of the three comes
+pub the-own-refusal : OwnRefusal alone
+the-own-refusal =
+    record {
+      not-long = λ p q e. let z : _≡_ {A = ℕ} 0 1 = cc in omega arith;
+      not-pool = λ p q e. let z : _≡_ {A = ℕ} 0 1 = cc in omega arith;
+    }
 
 -- builds with small limits, each with the row of the refusals and the place that it comes to
 pub the-refused-builds : map (λ (x : Line). rowOf (buildRulesTo (x .most) (x .terms) (x .rules))) refusedLines ≡ map (λ (x : Line). x .comes) refusedLines

@@ -3,6 +3,7 @@
 use Prim.Native.Nat.{ℕ, zero, suc, _+_}
 use mathlib.Core.Path.{_≡_, refl}
 use mathlib.Core.List.{List, [], _∷_, map}
+use Rattle.number.specs.Limits.{states, pool}
 use Rattle.number.specs.Refused.{Row, rowOf}
 use Rattle.number.specs.Refused.Row.{noRow, row}
 use Rattle.meaning.specs.Re.{Re, size}
@@ -45,7 +46,7 @@ pub record Line : Type 0 where
 
 abbrev pub refusedLines : List Line
 refusedLines =
-    record { most = 255; terms = 2048; rules = ab; comes = noRow } ∷
+    record { most = states; terms = pool; rules = ab; comes = noRow } ∷
     record { most = 4; terms = 5; rules = ab; comes = noRow } ∷
     record { most = 3; terms = 5; rules = ab; comes = row 8 2 } ∷
     record { most = 2; terms = 5; rules = ab; comes = row 8 0 } ∷
@@ -53,9 +54,9 @@ refusedLines =
     record { most = 4; terms = 3; rules = ab; comes = row 7 0 } ∷
     record { most = 4; terms = 2; rules = ab; comes = row 7 0 } ∷
     record { most = 3; terms = 4; rules = ab; comes = row 8 2 } ∷
-    record { most = 3; terms = 2048; rules = growing; comes = row 6 2 } ∷
-    record { most = 255; terms = 2048; rules = falling 128 ∷ []; comes = row 6 0 } ∷
-    record { most = 1; terms = 2048; rules = falling 127 ∷ []; comes = row 8 0 } ∷
+    record { most = 3; terms = pool; rules = growing; comes = row 6 2 } ∷
+    record { most = states; terms = pool; rules = falling 128 ∷ []; comes = row 6 0 } ∷
+    record { most = 1; terms = pool; rules = falling 127 ∷ []; comes = row 8 0 } ∷
     []
 
 pub refused-lines : map (λ (x : Line). rowOf (buildRulesTo (x .most) (x .terms) (x .rules))) refusedLines ≡ map (λ (x : Line). x .comes) refusedLines

@@ -1,5 +1,5 @@
 -- The theorems of cutting that are bought, together; each is proved in the file that its proof names.
--- To believe them, read the definitions: Steps, Cut, Tiles, Pieces, Calls, Flat, Left, Promises, Sample, and meaning's Words.
+-- To believe them, read the definitions: Steps, Cut, Tiles, Pieces, Calls, Flat, Left, Promises, Dead, Sample, and meaning's Words.
 use Prim.Native.Nat.{ℕ, _+_, _*_, _/_, _≤_}
 use mathlib.Core.Path.{_≡_, refl}
 use mathlib.Core.Bool.{true, false}

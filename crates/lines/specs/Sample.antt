@@ -1,4 +1,4 @@
--- Every kind of line, printed by hand: document 01's own, numbers of one digit and of many, every row of refusals that has no place, every hexadecimal digit.
+-- Every kind of line, printed by hand: document 01's own, numbers of one digit and of many, every refusal, every hexadecimal digit.
 -- Main has the theorem that the definitions print so; the checker computes it.
 use Prim.Native.Nat.{ℕ}
 use Prim.Native.String.{String}

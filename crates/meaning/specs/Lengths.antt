@@ -83,6 +83,7 @@ lengths =
     Formed (Cat nodes255 Nothing) (fits Nothing) ∷
     Formed (Cat nodes256 Nothing) (long Nothing) ∷
     Formed (Cat Nothing nodes256) (long Nothing) ∷
+    Formed (Cat (Cat (links 63 a a) (Star (links 63 b b))) Nothing) (long Nothing) ∷
     Formed (Cat (Cat nodes256 Nothing) a) (long Nothing) ∷
     Formed (Star (Cat nodes256 Nothing)) (long Empty) ∷
     Formed (Alt a (Cat nodes256 Nothing)) (long a) ∷

@@ -16,7 +16,8 @@ use Rattle.number.specs.Refused.Answer.{got, refused}
 use Rattle.number.specs.Refused.Outcome.{gives, refuses}
 use Rattle.number.specs.Refused.Row.{noRow, row}
 use Rattle.number.specs.Rows.{refusalsAt, refusalOf}
-use Rattle.number.specs.Numbers.{Bytes, due, several, readNumber, within, field, writeNumber, NumberAt, FieldAt}
+use Rattle.number.specs.declared.Taken.the-variants.{Value, Refused}
+use Rattle.number.specs.Numbers.{Bytes, taken, due, several, readNumber, within, field, writeNumber, NumberAt, FieldAt}
 use Rattle.number.specs.Faults.{NumberFault, FieldFault}
 use Rattle.number.specs.Reading.{Reader, _>>=_, _>>_, end}
 use Rattle.number.specs.Lists.{written, Writes, written-length, before-written, there-written, past-written, only-written}
@@ -120,6 +121,10 @@ the-read-field = field-read
 pub the-refused-field : (s : List ℕ) (lo hi at : ℕ) (r : Refusal) → Bytes s
     → (field s lo hi at ≡ refused r) ↔ FieldFault s lo hi at r
 the-refused-field s lo hi at r all = (refused-field s lo hi at r all, field-fault s lo hi at r)
+
+-- what the code answers is this: a value and the place after it as they are, a refusal as it is
+pub the-answers : ((value next : ℕ) → taken (Value value next) ≡ got value next) × ((r : Refusal) → taken (Refused r) ≡ refused r)
+the-answers = (λ value next. refl, λ r. refl)
 
 -- ---- files
 

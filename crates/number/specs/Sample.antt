@@ -1,11 +1,16 @@
 -- Numbers of files worked by hand: document 01's own, each width from both sides, and fields at their bounds, with what is answered of each.
 -- Main has the theorem that the readers answer so; the checker computes it.
-use Prim.Native.Nat.{ℕ}
-use mathlib.Core.List.{List, [], _∷_}
+use Prim.Native.Nat.{ℕ, zero, suc}
+use mathlib.Core.List.{List, [], _∷_, _++_}
 use Rattle.number.specs.Refused.{Answer, number, place}
 use Rattle.number.specs.Refused.Answer.{got, refused}
 use Rattle.number.specs.Numbers.{readNumber, field}
 use Rattle.number.specs.Reading.{Reader}
+
+-- the same bytes so many times, for the lists of files above
+unfoldable pub repeated : ℕ → List ℕ → List ℕ
+repeated zero bytes = []
+repeated (suc n) bytes = bytes ++ repeated n bytes
 
 -- what is told: a value and the place after it, or a refusal's number and its place
 pub data Told : Type 0 where

@@ -1,7 +1,7 @@
 -- The theorems of the programs that are bought, together: what they print is what the textbook and the calls of document 01 say.
--- To believe them, read the definitions: Output and Print here, Lines in lines, and those that they stand on. Proofs of more than two lines stand in FileLaws and MainLaws, computed ones in Sample and Prints.
+-- To believe them, read the definitions: Output, Print, Sample and Prints here, Lines in lines, and those that they stand on. Proofs of more than two lines stand in FileLaws and MainLaws, computed ones in Sample and Prints.
 use Prim.Native.Nat.{ℕ, _<_, _≤_}
-use mathlib.Core.Path.{_≡_, sym, ap, _∙_}
+use mathlib.Core.Path.{_≡_, refl, sym, ap, _∙_}
 use mathlib.Core.List.{List, _∷_, _++_, map}
 use lib.ListN.{length}
 use Rattle.number.specs.declared.Refusal.{Refusal}
@@ -27,7 +27,7 @@ use Rattle.verdict.specs.Calls.{compareBook}
 use Rattle.verdict.specs.Demand.{CutAlike}
 use Rattle.verdict.specs.Main.{the-same, the-difference}
 use Rattle.programs.specs.Output.{kindIn}
-use Rattle.programs.specs.Print.{cutPrint, Printed, verdictLines, comparePrint, sheetOf}
+use Rattle.programs.specs.Print.{cutPrint, Printed, cutRoom, compareRoom, verdictLines, comparePrint, sheetOf}
 use Rattle.programs.specs.Sample.{sampleText, sampleLines, sample-printed, stuckText, stuckLines, stuck-printed, sample-sheet}
 use Rattle.programs.specs.Prints.{overLine, printed, stated, prints, prints-hold}
 use Rattle.programs.specs.PrintLaws.{sheet-no-book}
@@ -40,7 +40,11 @@ use Rattle.programs.specs.MainLaws.{words-printed, same-only, compare-by
 pub one-print : {w o o₁ o₂ : List ℕ} {e f : ℕ} → Writes w o o₁ 0 e → Writes w o o₂ 0 f → (e ≡ f) × (o₁ ≡ o₂)
 one-print a b = (a .place ∙ sym (b .place), a .out ∙ sym (b .out))
 
--- ---- files
+-- ---- rooms and files
+
+-- the room that their functions ask for, in bytes
+pub the-rooms : (cutRoom ≡ 3276900) × (compareRoom ≡ 1125)
+the-rooms = (refl, refl)
 
 -- what is over its size is `refused 13 0`, whatever else is wrong with it or with the other file; the theorems below read all that is not
 pub record Sizes : Type 0 where

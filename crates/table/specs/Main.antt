@@ -8,7 +8,7 @@ use mathlib.Core.Logic.{_↔_}
 use lib.ListN.{length, take, drop, replicate}
 use Rattle.number.specs.declared.Refusal.{Refusal}
 use Rattle.number.specs.declared.Refusal.the-variants.{Range}
-use Rattle.number.specs.Limits.{states, tableCells}
+use Rattle.number.specs.Limits.{rules, bytes, states, tableCells}
 use Rattle.number.specs.Numbers.{Bytes}
 use Rattle.number.specs.Refused.Answer.{got, refused}
 use Rattle.number.specs.Refused.Outcome.{gives}
@@ -136,7 +136,7 @@ pub the-rows : map rowGiven sheetLines ≡ map rowTold sheetLines
 the-rows = rows-computed
 
 -- every count from 1 to 255 passes, with the largest label and the largest target everywhere
-pub the-full-tables : (s : ℕ) → 1 ≤ s → s ≤ 255 → wellFormed s (replicate s 32) (replicate (s * 256) (s - 1)) ≡ true
+pub the-full-tables : (s : ℕ) → 1 ≤ s → s ≤ states → wellFormed s (replicate s rules) (replicate (s * bytes) (s - 1)) ≡ true
 the-full-tables = full-well
 
 -- memory that holds a table and memory that does not, at each of its limits

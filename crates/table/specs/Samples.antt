@@ -1,6 +1,6 @@
 -- Sheets and tables written out, each with what document 01 says of it; SampleLaws has the checker compute them all.
 -- They are every row that reading a sheet can give, at every field, each order of two faults, and every limit from both sides.
-use Prim.Native.Nat.{ℕ, zero, suc}
+use Prim.Native.Nat.{ℕ}
 use mathlib.Core.Path.{_≡_}
 use mathlib.Core.Bool.{Bool, true, false}
 use mathlib.Core.List.{List, [], _∷_, _++_}
@@ -9,6 +9,7 @@ use Rattle.number.specs.declared.Refusal.the-variants.{Short, Range}
 use Rattle.number.specs.Refused.{Answer, Row, rowRead}
 use Rattle.number.specs.Refused.Answer.{got, refused}
 use Rattle.number.specs.Refused.Row.{noRow, row}
+use Rattle.number.specs.Sample.{repeated}
 use Rattle.table.specs.Table.{Table, wellFormed}
 use Rattle.table.specs.Sheet.{readSheetTo, readSheet, countTold, writeSheet}
 
@@ -80,11 +81,6 @@ rowGiven (read file) = rowRead (readSheet file)
 abbrev pub rowTold : SheetLine → Row
 rowTold (wrong n p file) = row n p
 rowTold (read file) = noRow
-
--- bytes n times over
-unfoldable pub times : ℕ → List ℕ → List ℕ
-times zero bytes = []
-times (suc n) bytes = bytes ++ times n bytes
 
 unfoldable pub sheetLines : List SheetLine
 sheetLines =
@@ -180,7 +176,7 @@ sheetLines =
     read (1 ∷ 2 ∷ 0 ∷ 1 ∷ 0x80 ∷ 0x02 ∷ 0 ∷ 1 ∷ 1 ∷ 0x80 ∷ 0x02 ∷ 0 ∷ []) ∷
     read (1 ∷ 2 ∷ 0 ∷ 1 ∷ 0x80 ∷ 0x02 ∷ 1 ∷ 0 ∷ 1 ∷ 0x80 ∷ 0x02 ∷ 1 ∷ []) ∷
     -- a row of 256 runs of one byte each
-    read ((1 ∷ 2 ∷ 0 ∷ 0x80 ∷ 0x02 ∷ []) ++ times 128 (1 ∷ 0 ∷ 1 ∷ 1 ∷ []) ++ (0 ∷ 1 ∷ 0x80 ∷ 0x02 ∷ 1 ∷ [])) ∷
+    read ((1 ∷ 2 ∷ 0 ∷ 0x80 ∷ 0x02 ∷ []) ++ repeated 128 (1 ∷ 0 ∷ 1 ∷ 1 ∷ []) ++ (0 ∷ 1 ∷ 0x80 ∷ 0x02 ∷ 1 ∷ [])) ∷
     []
 
 -- ---- memory and whether the table in it is well formed

@@ -10,7 +10,7 @@ use borrow.Author.Tests.{leb-true, ltb-true, le-leb, lt-ltb}
 use lib.Dec.{leb, ltb}
 use lib.ListN.{length, getD, take, drop, replicate, length-take, length-drop, getD-replicate, length-replicate}
 use lib.Seq.{getD-take, getD-drop, length-take-le}
-use Rattle.number.specs.Limits.{rules, bytes}
+use Rattle.number.specs.Limits.{rules, states, bytes}
 use Rattle.table.specs.Table.{lent, all, wellFormed}
 use Rattle.table.specs.Formed.{Formed}
 
@@ -98,14 +98,14 @@ well-formed-formed s labels targets = (well-formed s labels targets, formed-well
 
 -- ---- the fullest tables
 
-pub full-well : (s : ℕ) → 1 ≤ s → s ≤ 255 → wellFormed s (replicate s 32) (replicate (s * 256) (s - 1)) ≡ true
+pub full-well : (s : ℕ) → 1 ≤ s → s ≤ states → wellFormed s (replicate s rules) (replicate (s * bytes) (s - 1)) ≡ true
 full-well s some most =
-    formed-well s (replicate s 32) (replicate (s * 256) (s - 1))
+    formed-well s (replicate s rules) (replicate (s * bytes) (s - 1))
     (record {
       some = some;
       most = most;
-      labelled = length-take-le s (replicate s 32) (omega (arith, length-replicate {A = ℕ} s 32));
-      filled = length-take-le (s * bytes) (replicate (s * 256) (s - 1)) (omega (arith, length-replicate (s * 256) (s - 1)));
-      label = each-take (λ l. l ≤ rules) s (replicate s 32) (each-replicate (λ l. l ≤ rules) s 32 (omega arith));
-      target = each-take (λ t. t < s) (s * bytes) (replicate (s * 256) (s - 1)) (each-replicate (λ t. t < s) (s * 256) (s - 1) (omega arith));
+      labelled = length-take-le s (replicate s rules) (omega (arith, length-replicate {A = ℕ} s rules));
+      filled = length-take-le (s * bytes) (replicate (s * bytes) (s - 1)) (omega (arith, length-replicate (s * bytes) (s - 1)));
+      label = each-take (λ l. l ≤ rules) s (replicate s rules) (each-replicate (λ l. l ≤ rules) s rules (omega arith));
+      target = each-take (λ t. t < s) (s * bytes) (replicate (s * bytes) (s - 1)) (each-replicate (λ t. t < s) (s * bytes) (s - 1) (omega arith));
     })

@@ -1,9 +1,10 @@
 -- The theorems of comparing that are bought, together; each is proved in the file that its proof names, or computed here.
--- To believe them, read the definitions: Demand, Compare and Calls here, Texts, Walk and Passing in walk, and those that they stand on.
+-- To believe them, read the definitions: Demand, Compare, Calls, Called and Sample here, Texts, Walk and Passing in walk, and those that they stand on.
 use Prim.Native.Nat.{ℕ, _≤_}
 use mathlib.Core.Path.{_≡_, refl}
+use native.Mathlib.Omega.{arith}
 use mathlib.Core.Bool.{true, false}
-use mathlib.Core.List.{List, [], _∷_, map}
+use mathlib.Core.List.{List}
 use mathlib.Core.Logic.{_↔_}
 use lib.ListN.{length, replicate}
 use Rattle.number.specs.declared.Refusal.{Refusal}
@@ -20,10 +21,11 @@ use Rattle.book.specs.Reads.{readBook}
 use Rattle.book.specs.Expression.{meant}
 use Rattle.table.specs.Table.{Table, lent, wellFormed}
 use Rattle.cutting.specs.Cut.{Cut, Cuts, cutBy}
+use Rattle.walk.specs.Bought.{OwnRefusal}
 use Rattle.walk.specs.Passing.{Limits}
 use Rattle.built.specs.Calls.{buildBook, buildOf}
 use Rattle.verdict.specs.declared.Compared.the-variants.{Same as Compared·same, Differs as Compared·differs, Refused as Compared·refused}
-use Rattle.verdict.specs.Compare.{Verdict, compareRulesTo, compareRules}
+use Rattle.verdict.specs.Compare.{Verdict, beside, compareRulesTo, compareRules}
 use Rattle.verdict.specs.Compare.Verdict.{Same, Differs}
 use Rattle.verdict.specs.Calls.{compared, compareBook, Comparison, compareOf}
 use Rattle.verdict.specs.Calls.Told.{same, differs}
@@ -54,6 +56,14 @@ module _ (file : List ℕ) (b : Book) (after : ℕ) (t : Table) (read : readBook
   -- The place is the number of the pair that this text leaves, which is one (walk, the-number); and it answers exactly where no text passes a limit
   pub the-limits : Limits (heldPairs (meant b) t) (rowOf (compareBook file t))
   the-limits = limits-at file b after t read
+
+-- its walk's own refusal is neither Long nor Pool, so that walk's `the-stops` tells where each of the three comes
+pub the-own-refusal : (t : Table) → OwnRefusal (beside t)
+the-own-refusal t =
+    record {
+      not-long = λ p q e. let z : _≡_ {A = ℕ} 0 1 = cc in omega arith;
+      not-pool = λ p q e. let z : _≡_ {A = ℕ} 0 1 = cc in omega arith;
+    }
 
 -- wider limits take nothing back: what was answered with fewer pairs or terms allowed is answered with ours, and what was too long is so at the same place
 pub record Wider (most terms : ℕ) (t : Table) (rs : List Re) : Type 0 where
@@ -103,9 +113,9 @@ pub the-own-call : (file labels targets scratch : List ℕ) (n : ℕ) → buildO
 the-own-call = own-call
 
 -- the code's answers, as the paper has them: the length of the text, the book's label, the table's
-pub the-answers : map compared (Compared·same ∷ Compared·differs 2 1 0 ∷ Compared·refused Room ∷ [])
-    ≡ (gives same ∷ gives (differs 2 1 0) ∷ refuses Room ∷ [])
-the-answers = refl
+pub the-answers : (compared Compared·same ≡ gives same) × ((n book table : ℕ) → compared (Compared·differs n book table) ≡ gives (differs n book table))
+    × ((r : Refusal) → compared (Compared·refused r) ≡ refuses r)
+the-answers = (refl, λ n book table. refl, λ r. refl)
 
 -- ---- computed by the checker
 

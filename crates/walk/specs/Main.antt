@@ -1,5 +1,5 @@
 -- The theorems on the walk that are bought, together: building and comparing rest on them. Each is proved in BoughtLaws or PassingLaws, or computed in Sample.
--- To believe them, read the definitions: Vectors, Parts, Walk, Texts, Bought and Passing here, and those that they stand on.
+-- To believe them, read the definitions: Vectors, Parts, Walk, Texts, Bought, Passing and Sample here, and those that they stand on.
 use Prim.Native.Nat.{ℕ, _<_}
 use mathlib.Core.Path.{_≡_}
 use mathlib.Core.List.{List, []}
@@ -16,8 +16,8 @@ use Rattle.walk.specs.Walk.{none, Held, nothingHeld, Step, Way, step, be
 use Rattle.walk.specs.Walk.Walked.{halted, walked}
 use Rattle.walk.specs.Bought.{Ordered, Vectors, Pools, onBy, Goes, Begins, OwnRefusal, Stops, Finished, Halts}
 use Rattle.walk.specs.BoughtLaws.{ordered, derived-vectors, normalised-vectors, pools, step-goes, begin-goes, step-stops, begin-stops, walk-finished, walk-halts}
-use Rattle.walk.specs.Passing.{NumberOf, Holding, Limits}
-use Rattle.walk.specs.PassingLaws.{number-one, limits-one}
+use Rattle.walk.specs.Passing.{Firsts, NumberOf, Holding, Limits}
+use Rattle.walk.specs.PassingLaws.{number-one, firsts-one, limits-one}
 use Rattle.walk.specs.Sample.{pooled, stated, worked-pools}
 
 -- of two different texts one comes sooner: the shorter, or of one length the one with the lower byte where they first differ
@@ -67,6 +67,10 @@ the-halt = walk-halts
 -- what a text leads to has no two numbers
 pub the-number : {A : Type 0} (goal : Text → A) (w : Text) (m n : ℕ) → NumberOf goal w m → NumberOf goal w n → m ≡ n
 the-number = number-one
+
+-- and the first texts of what texts lead to are fixed
+pub the-first-texts : {A : Type 0} (goal : Text → A) (t u : ℕ → Text) (n : ℕ) → Firsts goal t n → Firsts goal u n → (k : ℕ) → k < n → t k ≡ u k
+the-first-texts = firsts-one
 
 -- texts alone fix whether there is a refusal, by which row and at which place: no two answers have the limits that they tell
 pub the-one-row : {A : Type 0} (x : Holding A) (a b : Row) → Limits x a → Limits x b → a ≡ b

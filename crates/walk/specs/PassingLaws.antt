@@ -1,6 +1,6 @@
 -- Laws of the limits as Passing tells them: a goal has one number, and of two texts that pass a limit one is first, where one limit is the first passed.
 -- So texts alone fix the row of an answer and its place.
-use Prim.Native.Nat.{ℕ, suc, _<_, _≤_}
+use Prim.Native.Nat.{ℕ, zero, suc, _<_, _≤_}
 use mathlib.Core.Path.{_≡_, refl, sym, ap, subst, _∙_}
 use mathlib.Core.List.{[], _∷_, _++_}
 use mathlib.Core.Logic.{_⊎_, inl, inr}
@@ -26,6 +26,21 @@ module _ {A : Type 0} (goal : Text → A) where
       go : NotLater (text k) (text j) → ⊥
       go (equal e) = p .apart j k l m (ap goal (sym e))
       go (sooner s) = let (i, o, q) = p .first j (omega arith) (text k) (p .is-text k m) s in p .apart i k (omega arith) m (sym q)
+
+  -- first texts are fixed: one that is sooner would lead to an earlier goal
+  pub firsts-one : (t u : ℕ → Text) (n : ℕ) → Firsts goal t n → Firsts goal u n → (k : ℕ) → k < n → t k ≡ u k
+  firsts-one t u n p q k l = below (suc k) l k (omega arith)
+    where
+      same : (j : ℕ) → j < n → ((i : ℕ) → i < j → t i ≡ u i) → t j ≡ u j
+      same j h ih = elim (not-later-or (t j) (u j)) [ inl a ↦ go a | inr s ↦ absurd (let (i, o, e) = p .first j h (u j) (q .is-text j h) s in q .apart i j o h (ap goal (sym (ih i o)) ∙ sym e)) ]
+        where
+          go : NotLater (t j) (u j) → t j ≡ u j
+          go (equal e) = e
+          go (sooner s) = absurd (let (i, o, e) = q .first j h (t j) (p .is-text j h) s in p .apart i j o h (ap goal (ih i o) ∙ sym e))
+
+      below : (m : ℕ) → m ≤ n → (j : ℕ) → j < m → t j ≡ u j
+      below zero h j o = absurd (omega arith)
+      below (suc m) h j o = same j (omega arith) (λ i r. below m (omega arith) i (omega arith))
 
   -- the first text of the one is not sooner than that of the other
   not-sooner : {w : Text} (m n : ℕ) (p : NumberOf goal w m) (q : NumberOf goal w n) → Sooner (q .text n) (p .text m) → ⊥
