@@ -1,7 +1,6 @@
 // Compares words.book with words.sheet and prints whether they are the same.
-// It reads both before it looks at either, and writes once; what is printed is the promise of compare_lines::compare_lines.
+// It reads both before it looks at either, and prints all at once; what is printed is the promise of compare_lines::compare_lines.
 use compare_lines::COMPARE_ROOM;
-use libc::STDOUT_FILENO;
 use number::limits::BOOK_FILE;
 use number::limits::SHEET_FILE;
 
@@ -12,5 +11,5 @@ fn main() {
     let book_end = files::read_named(b"words.book", &mut book);
     let sheet_end = files::read_named(b"words.sheet", &mut sheet);
     let end = compare_lines::compare_lines(&book[0..book_end], &sheet[0..sheet_end], &mut out);
-    io::write_all(STDOUT_FILENO, &out[0..end]);
+    files::print(&out[0..end]);
 }

@@ -1,7 +1,6 @@
 // Cuts standard input by the rules of words.book and prints the words.
-// It reads both before it looks at either, and writes once; what is printed is the promise of cut_lines::cut_lines.
+// It reads both before it looks at either, and prints all at once; what is printed is the promise of cut_lines::cut_lines.
 use libc::STDIN_FILENO;
-use libc::STDOUT_FILENO;
 use number::limits::BOOK_FILE;
 use number::limits::TEXT_FILE;
 
@@ -12,5 +11,5 @@ fn main() {
     let book_end = files::read_named(b"words.book", &mut book);
     let text_end = files::read_all(STDIN_FILENO, &mut text);
     let end = cut_lines::cut_lines(&book[0..book_end], &text[0..text_end], &mut out);
-    io::write_all(STDOUT_FILENO, &out[0..end]);
+    files::print(&out[0..end]);
 }

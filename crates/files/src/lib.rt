@@ -1,27 +1,110 @@
-// Reading files, which the programs share. What is read is the system's; a promise can only say that it lies in the buffer.
-// A buffer for a file has one byte more than the file may have, so that a full buffer tells that the file is too long.
-ghost use Prim.Native.Nat.{_≤_};
+// Reading and writing by the system's calls, which the programs share: files by name, standard input and output.
+// What an answer of the system's means, and what a row of answers comes to, is proved in the crate transfer; here the calls are made.
+ghost use Prim.Native.Nat.{_<_, _≤_};
 ghost use lib.ListN.{length};
+ghost use Rattle.files.specs.Within.{Within, Turned};
+use asked::Ask;
+use asked::patiently;
+use libc::STDERR_FILENO;
+use libc::STDOUT_FILENO;
+use transfer::INTERRUPTIONS;
+use transfer::Transfer;
 
-// Reads to the end, or until the buffer is full. A descriptor that cannot be read answers as one that has too much: both are refused alike.
+mod asked;
+mod beside;
+
+pub use beside::save;
+
+// One read behind the bytes that are there, and how far it brings the transfer.
+fn read_turn(fd: i32, buffer: &mut [u8], at: usize, left: u32) -> Transfer
+    requires { ⌜ at < length (now buffer) ⌝ }
+    ensures { λ t. ⌜ Turned (length (now (buffer .entry))) at left t ⌝ }
+{
+    let room = buffer.len();
+    let got = libc::read(fd, &mut buffer[at..]);
+    let answer = transfer::answer_of(got, os::errno());
+    transfer::go_on(room, at, left, answer)
+}
+
+// Reads until the buffer is full, the input ends or a read fails.
+pub fn read(fd: i32, buffer: &mut [u8]) -> Transfer
+    ensures { λ t. ⌜ Within (length (now (buffer .entry))) t ⌝ }
+{
+    let mut at: usize = 0;
+    let mut left = INTERRUPTIONS;
+    while at < buffer.len() {
+        match read_turn(fd, buffer, at, left) {
+            Transfer::Going(moved, fewer) => {
+                at = moved;
+                left = fewer;
+            }
+            Transfer::All => return Transfer::All,
+            Transfer::Ended(count) => return Transfer::Ended(count),
+            Transfer::Failed => return Transfer::Failed,
+        }
+    }
+    Transfer::All
+}
+
+// One write of the bytes that are left, and how far it brings the transfer.
+fn write_turn(fd: i32, bytes: &[u8], at: usize, left: u32) -> Transfer
+    requires { ⌜ at < length (now bytes) ⌝ }
+    ensures { λ t. ⌜ Turned (length (now (bytes .entry))) at left t ⌝ }
+{
+    let put = libc::write(fd, &bytes[at..]);
+    let answer = transfer::answer_of(put, os::errno());
+    transfer::go_on(bytes.len(), at, left, answer)
+}
+
+// Writes until all is written, or a write fails or takes nothing.
+pub fn write(fd: i32, bytes: &[u8]) -> Transfer
+    ensures { λ t. ⌜ Within (length (now (bytes .entry))) t ⌝ }
+{
+    let mut at: usize = 0;
+    let mut left = INTERRUPTIONS;
+    while at < bytes.len() {
+        match write_turn(fd, bytes, at, left) {
+            Transfer::Going(moved, fewer) => {
+                at = moved;
+                left = fewer;
+            }
+            Transfer::All => return Transfer::All,
+            Transfer::Ended(count) => return Transfer::Ended(count),
+            Transfer::Failed => return Transfer::Failed,
+        }
+    }
+    Transfer::All
+}
+
+// The number of bytes of an input that was read to its end. Where it is longer than the buffer, or a read fails, it is the buffer's length:
+// a buffer for a file has one byte more than the file may have, so that this stands for a file that is not to be had.
 pub fn read_all(fd: i32, buffer: &mut [u8]) -> usize
     ensures { λ n. ⌜ n ≤ length (now (buffer .exit)) ⌝ }
 {
-    if libc::read(fd, &mut buffer[..0]) < 0 {
-        return buffer.len();
-    }
-    io::read_full(fd, buffer)
+    let room = buffer.len();
+    transfer::taken(room, read(fd, buffer))
 }
 
-// The same of a file by its name; so does a file that is missing.
+// The same of a file by its name; one that cannot be opened is not to be had either.
 pub fn read_named(name: &[u8], buffer: &mut [u8]) -> usize
     ensures { λ n. ⌜ n ≤ length (now (buffer .exit)) ⌝ }
 {
-    let fd = os::open_read(name);
+    let fd = patiently(Ask::Read, name);
     if fd < 0 {
         return buffer.len();
     }
     let n = read_all(fd, buffer);
     libc::close(fd);
     n
+}
+
+pub fn write_all(fd: i32, bytes: &[u8]) -> bool {
+    transfer::is_all(write(fd, bytes))
+}
+
+// Writes to standard output. What cannot be written is told on standard error, since a program has no exit status to tell it by.
+pub fn print(bytes: &[u8]) {
+    if !write_all(STDOUT_FILENO, bytes) {
+        write_all(STDERR_FILENO, b"standard output could not be written whole\n");
+    }
 }

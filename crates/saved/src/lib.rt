@@ -1,10 +1,9 @@
 // What the programs rules and sheet do with the bytes that they read: they save a book, or a sheet, in its file, or print the refusal.
-// A refusal leaves the file as it was, since it is opened only when the bytes are there, as rules_book and sheet_bytes promise them.
+// A refusal leaves the file as it was, since nothing is saved before the bytes are there, as rules_book and sheet_bytes promise them.
 ghost use Prim.Native.Nat.{_≤_};
 ghost use lib.ListN.{length};
 ghost use Rattle.saved.specs.Made.{Makes};
 use advice::ADVICE_ROOM;
-use libc::STDOUT_FILENO;
 use lines::LINE_ROOM;
 use number::Refusal;
 use number::limits::RULES_FILE;
@@ -29,21 +28,10 @@ pub fn read_rules(name: &[u8], text: &mut [u8; RULES_FILE + 1]) -> usize
     files::read_named(name, text)
 }
 
-// Writes a file anew, whole; whether that could be done is the answer.
-pub(crate) fn save(name: &[u8], bytes: &[u8]) -> bool {
-    let fd = os::open_overwrite(name);
-    if fd < 0 {
-        return false;
-    }
-    let whole = io::write_all(fd, bytes);
-    libc::close(fd);
-    whole
-}
-
 pub(crate) fn print_refused(r: Refusal) {
     let mut line = [0u8; LINE_ROOM];
     let end = lines::put_refused(r, &mut line, 0);
-    io::write_all(STDOUT_FILENO, &line[0..end]);
+    files::print(&line[0..end]);
 }
 
 // The refusal, and for people where and why.
@@ -51,7 +39,7 @@ fn tell(text: &[u8], r: Refusal, people: i32) {
     print_refused(r);
     let mut out = [0u8; ADVICE_ROOM];
     let end = advice::advise(text, r, &mut out);
-    io::write_all(people, &out[0..end]);
+    files::write_all(people, &out[0..end]);
 }
 
 // A book that cannot be written is refused as a file that cannot be read is, but people are told which of the two it was.
@@ -59,7 +47,7 @@ fn tell_unsaved(people: i32) {
     print_refused(Refusal::Input);
     let mut out = [0u8; ADVICE_ROOM];
     let end = advice::advise_unsaved(&mut out);
-    io::write_all(people, &out[0..end]);
+    files::write_all(people, &out[0..end]);
 }
 
 // Saves the book of these bytes, which are as read_rules left them; people are told of a refusal on the descriptor given for them.
@@ -69,7 +57,7 @@ pub fn make_book(text: &[u8], people: i32) -> Made
     let mut book = [0u8; TYPED_AREA];
     match rules_book::rules_book(text, &mut book) {
         Written::Bytes(n) => {
-            if save(b"words.book", &book[0..n]) {
+            if files::save(b"words.book", &book[0..n]) {
                 return Made::Saved;
             }
             tell_unsaved(people);

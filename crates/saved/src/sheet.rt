@@ -1,10 +1,8 @@
 // What the program sheet does with the bytes of its book: it saves the sheet in words.sheet, or prints the refusal.
-// A refusal leaves words.sheet as it was, since it is opened only when the sheet's bytes are there, as sheet_bytes::sheet_bytes promises them.
+// A refusal leaves words.sheet as it was, since nothing is saved before the sheet's bytes are there, as sheet_bytes::sheet_bytes promises them.
 ghost use Rattle.saved.specs.SheetMade.{MakesSheet};
 use crate::Made;
 use crate::print_refused;
-use crate::save;
-use libc::STDOUT_FILENO;
 use number::Refusal;
 use sheet_bytes::Put;
 use table::LONGEST_SHEET;
@@ -17,14 +15,14 @@ pub fn make_sheet(book: &[u8]) -> Made
     let mut out = [0u8; LONGEST_SHEET];
     match sheet_bytes::sheet_bytes(book, &mut out) {
         Put::Sheet(end) => {
-            if save(b"words.sheet", &out[0..end]) {
+            if files::save(b"words.sheet", &out[0..end]) {
                 return Made::Saved;
             }
             print_refused(Refusal::Input);
             Made::Unsaved
         }
         Put::Line(r, end) => {
-            io::write_all(STDOUT_FILENO, &out[0..end]);
+            files::print(&out[0..end]);
             Made::Refused(r)
         }
     }

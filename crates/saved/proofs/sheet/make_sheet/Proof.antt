@@ -42,17 +42,17 @@ print-refused-requires c κs = search needs
 enum-known-r : tie.Need-enum-known-r
 enum-known-r c = search needs
 
-sub-write-all : tie.Need-sub-write-all
-sub-write-all c = search needs
+sub-print : tie.Need-sub-print
+sub-print c = search needs
 
-part-write-all-start : tie.Need-part-write-all-start
-part-write-all-start c = search needs
+part-print-start : tie.Need-part-print-start
+part-print-start c = search needs
 
-part-write-all-end : tie.Need-part-write-all-end
-part-write-all-end c = omega (arith, c .before .before .before .before .before .sheet-bytes .ensures .fits, ap putEnd (c .before .before .r .given .1))
+part-print-end : tie.Need-part-print-end
+part-print-end c = omega (arith, c .before .before .before .before .before .sheet-bytes .ensures .fits, ap putEnd (c .before .before .r .given .1))
 
-write-all-requires : tie.Need-write-all-requires
-write-all-requires c κs = search needs
+print-requires : tie.Need-print-requires
+print-requires c κs = search needs
 
 returns-2 : tie.Need-returns-2
 returns-2 c = when-sheet _ (c .before .before .before .before .before .before .before .before .before .before .sheet-bytes .ensures) _ _ (c .before .before .before .before .before .before .before .end .given .1) (inr refl)
@@ -75,9 +75,9 @@ make-sheet-spec =
     returns
     print-refused-requires
     enum-known-r
-    sub-write-all
-    part-write-all-start
-    part-write-all-end
-    write-all-requires
+    sub-print
+    part-print-start
+    part-print-end
+    print-requires
     returns-2
     returns-3)
