@@ -1,4 +1,5 @@
--- What the readers and writers promise of how far they came: Within.
+-- What the readers and writers promise of how far they came: Within. Main has the theorem.
 -- What rests on the system alone is said in docs/PROMISES.md.
 pub mod Within
 pub mod TurnLaws
+pub mod Main

@@ -105,6 +105,9 @@ pub fn write_all(fd: i32, bytes: &[u8]) -> bool {
 // Writes to standard output. What cannot be written is told on standard error, since a program has no exit status to tell it by.
 pub fn print(bytes: &[u8]) {
     if !write_all(STDOUT_FILENO, bytes) {
-        write_all(STDERR_FILENO, b"standard output could not be written whole\n");
+        write_all(
+            STDERR_FILENO,
+            b"standard output could not be written whole\n",
+        );
     }
 }

@@ -51,7 +51,7 @@ module _ (room left : ℕ) where
   by-room k rest more-of front n i f true e =
       let h = ltb→lt (n + k) room (subst T (sym e) tt) in
       subst (λ x. Came room left x (run room rest (n + k) (left - i))) (append-assoc front (Moved k ∷ []) rest)
-        (more-of (front ++ (Moved k ∷ [])) (n + k) i (record { moves = put k (f .moves); short = h; patient = f .patient }))
+      (more-of (front ++ (Moved k ∷ [])) (n + k) i (record { moves = put k (f .moves); short = h; patient = f .patient }))
   by-room k rest more-of front n i f false e = all front rest n i k f (nltb→le (n + k) room (subst (λ b. T (not b)) (sym e) tt))
 
   by-left : (rest : List Answer) → Behind rest → (front : List Answer) (n i : ℕ) → Front room left front n i → (m : ℕ) → left - i ≡ m → Came room left (front ++ (Interrupted ∷ rest)) (onward (run room rest) (again n m))
@@ -61,8 +61,8 @@ module _ (room left : ℕ) where
   by-left rest more-of front n i f (suc m) e =
       let g : left - suc i ≡ m = omega (arith, e) in
       subst (λ x. Came room left x (run room rest n m)) (append-assoc front (Interrupted ∷ []) rest)
-        (subst (λ x. Came room left ((front ++ (Interrupted ∷ [])) ++ rest) (run room rest n x)) g
-          (more-of (front ++ (Interrupted ∷ [])) n (suc i) (record { moves = wait (f .moves); short = f .short; patient = omega (arith, e) })))
+      (subst (λ x. Came room left ((front ++ (Interrupted ∷ [])) ++ rest) (run room rest n x)) g
+      (more-of (front ++ (Interrupted ∷ [])) n (suc i) (record { moves = wait (f .moves); short = f .short; patient = omega (arith, e) })))
 
   behind : (rest : List Answer) → Behind rest
   behind [] front n i f = subst (λ x. Came room left x (Going n (left - i))) (sym (append-nil front)) (going front n i f)
@@ -75,7 +75,7 @@ module _ (room left : ℕ) where
   comes h answers =
       let e : left - 0 ≡ left = omega arith in
       subst (λ x. Came room left answers (run room answers 0 x)) e
-        (behind answers [] 0 0 (record { moves = none; short = h; patient = omega arith }))
+      (behind answers [] 0 0 (record { moves = none; short = h; patient = omega arith }))
 
   from-front : {front : List Answer} {n i : ℕ} → Front room left front n i → (rest : List Answer) → run room (front ++ rest) 0 left ≡ run room rest n (left - i)
   from-front {n = n} {i = i} f rest = let e : 0 + n ≡ n = omega arith in led room (f .moves) rest 0 left (let h = f .short in omega (arith, h)) (f .patient) ∙ ap (λ x. run room rest x (left - i)) e

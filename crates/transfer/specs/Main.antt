@@ -35,8 +35,8 @@ pub record Tells (room left : ℕ) (answers : List Answer) : Type 0 where
 pub the-transfers : (room left : ℕ) → 0 < room → (answers : List Answer) → Tells room left answers
 the-transfers room left h answers = record { comes-to = comes room left h answers; nothing-else = λ t. only room left answers t }
 
--- a part is never taken for the whole: fewer bytes than there is room for are handed on only where the system said that there were no more,
--- and these are all that it had given by then, with no failure on the way
+-- a part is never taken for the whole: fewer bytes than there is room for are handed on exactly where the system said that there were no more,
+-- and they are all that it had given by then, with no failure on the way
 pub record WholeFile (room left : ℕ) (answers : List Answer) (n : ℕ) : Type 0 where
   pub front : List Answer
   pub rest : List Answer
@@ -44,17 +44,26 @@ pub record WholeFile (room left : ℕ) (answers : List Answer) (n : ℕ) : Type 
   pub said : answers ≡ front ++ (Nothing ∷ rest)
   pub given : Front room left front n interruptions
 
-file-of : (room left : ℕ) (answers : List Answer) (t : Transfer) (n : ℕ) → Came room left answers t → takenOf room t ≡ n → n < room → WholeFile room left answers n
-file-of room left answers t n (ended front rest m i f) e h =
-    record { front = front; rest = rest; interruptions = i; said = refl; given = subst (λ x. Front room left front x i) e f }
-file-of room left answers t n (all front rest m i k f g) e h = absurd (omega (arith, e, h))
-file-of room left answers t n (failed front rest m i f) e h = absurd (omega (arith, e, h))
-file-of room left answers t n (tired front rest m f) e h = absurd (omega (arith, e, h))
-file-of room left answers t n (going front m i f) e h = absurd (omega (arith, e, h))
+pub record HandsOn (room left : ℕ) (answers : List Answer) (n : ℕ) : Type 0 where
+  pub only-whole : takenOf room (run room answers 0 left) ≡ n → WholeFile room left answers n
+  pub each-whole : WholeFile room left answers n → takenOf room (run room answers 0 left) ≡ n
 
-pub the-whole-file : (room left : ℕ) (answers : List Answer) (n : ℕ) → takenOf room (run room answers 0 left) ≡ n → n < room → WholeFile room left answers n
-the-whole-file room left answers n e h =
-    file-of room left answers (run room answers 0 left) n (comes room left (let g = h in omega (arith, g)) answers) e h
+file-of : (room left : ℕ) (answers : List Answer) (t : Transfer) (n : ℕ) → n < room → Came room left answers t → takenOf room t ≡ n → WholeFile room left answers n
+file-of room left answers t n h (ended front rest m i f) e =
+    record { front = front; rest = rest; interruptions = i; said = refl; given = subst (λ x. Front room left front x i) e f }
+file-of room left answers t n h (all front rest m i k f g) e = absurd (omega (arith, e, h))
+file-of room left answers t n h (failed front rest m i f) e = absurd (omega (arith, e, h))
+file-of room left answers t n h (tired front rest m f) e = absurd (omega (arith, e, h))
+file-of room left answers t n h (going front m i f) e = absurd (omega (arith, e, h))
+
+of-file : (room left : ℕ) (answers : List Answer) (n : ℕ) → WholeFile room left answers n → takenOf room (run room answers 0 left) ≡ n
+of-file room left answers n w =
+    let e = only room left (w .front ++ (Nothing ∷ w .rest)) (Ended n) (ended (w .front) (w .rest) n (w .interruptions) (w .given)) in
+    ap (λ x. takenOf room (run room x 0 left)) (w .said) ∙ sym (ap (takenOf room) e)
+
+pub the-whole-file : (room left : ℕ) (answers : List Answer) (n : ℕ) → n < room → HandsOn room left answers n
+the-whole-file room left answers n h =
+    record { only-whole = file-of room left answers (run room answers 0 left) n h (comes room left (let g = h in omega (arith, g)) answers); each-whole = of-file room left answers n }
 
 -- a failure is told as a file that is not to be had, wherever it comes, and never as bytes that were written
 pub record Unmoved (room left : ℕ) (answers : List Answer) : Type 0 where
@@ -66,7 +75,7 @@ the-failures room left front rest n i f =
     let e = only room left _ _ (failed front rest n i f) in
     record { unread = sym (ap (takenOf room) e); unwritten = sym (ap isAll e) }
 
--- bytes count as written only where the last of them was taken, with no failure on the way
+-- bytes count as written exactly where the last of them was taken, with no failure on the way
 pub record WholeOutput (room left : ℕ) (answers : List Answer) : Type 0 where
   pub front : List Answer
   pub rest : List Answer
@@ -77,6 +86,10 @@ pub record WholeOutput (room left : ℕ) (answers : List Answer) : Type 0 where
   pub taken : Front room left front before interruptions
   pub full : room ≤ before + last
 
+pub record Written (room left : ℕ) (answers : List Answer) : Type 0 where
+  pub only-whole : isAll (run room answers 0 left) ≡ true → WholeOutput room left answers
+  pub each-whole : WholeOutput room left answers → isAll (run room answers 0 left) ≡ true
+
 output-of : (room left : ℕ) (answers : List Answer) (t : Transfer) → Came room left answers t → T (isAll t) → WholeOutput room left answers
 output-of room left answers t (all front rest n i k f h) e =
     record { front = front; rest = rest; before = n; last = k; interruptions = i; said = refl; taken = f; full = h }
@@ -85,9 +98,14 @@ output-of room left answers t (failed front rest n i f) e = absurd e
 output-of room left answers t (tired front rest n f) e = absurd e
 output-of room left answers t (going front n i f) e = absurd e
 
-pub the-whole-output : (room left : ℕ) → 0 < room → (answers : List Answer) → isAll (run room answers 0 left) ≡ true → WholeOutput room left answers
-the-whole-output room left h answers e =
-    output-of room left answers (run room answers 0 left) (comes room left h answers) (subst T (sym e) tt)
+of-output : (room left : ℕ) (answers : List Answer) → WholeOutput room left answers → isAll (run room answers 0 left) ≡ true
+of-output room left answers w =
+    let e = only room left (w .front ++ (Moved (w .last) ∷ w .rest)) All (all (w .front) (w .rest) (w .before) (w .interruptions) (w .last) (w .taken) (w .full)) in
+    ap (λ x. isAll (run room x 0 left)) (w .said) ∙ sym (ap isAll e)
+
+pub the-whole-output : (room left : ℕ) → 0 < room → (answers : List Answer) → Written room left answers
+the-whole-output room left h answers =
+    record { only-whole = λ e. output-of room left answers (run room answers 0 left) (comes room left h answers) (subst T (sym e) tt); each-whole = of-output room left answers }
 
 -- rows of answers, computed: each with room for nine bytes and one interruption
 abbrev pub worked : List Answer → Transfer

@@ -37,10 +37,10 @@ pub fn answer_of(got: isize, error: i32) -> Answer
     if got == 0 {
         return Answer::Nothing;
     }
-    if error == EINTR {
-        return Answer::Interrupted;
+    if error != EINTR {
+        return Answer::Faulted;
     }
-    Answer::Faulted
+    Answer::Interrupted
 }
 
 // How far a transfer has come by one more answer. The buffer has so much room, and so much of it has been moved.

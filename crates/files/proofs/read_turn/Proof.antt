@@ -35,7 +35,7 @@ same-length c = search needs
 returns : tie.Need-returns
 returns c =
     turn _ _ _ (omega arith) (toZ w64 (ofZ w64 (c .before .before .before .before .before .read .result))) (toZ w32 (ofZ w32 (c .before .before .errno .result))) _ _
-      (c .before .answer-of .ensures) (c .go-on .ensures)
+    (c .before .answer-of .ensures) (c .go-on .ensures)
 
 pub read-turn-spec : {M : Type 1} → statement M
 read-turn-spec =

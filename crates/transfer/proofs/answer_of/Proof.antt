@@ -21,7 +21,7 @@ cast-t4 c =
     let same = toZ-ofZ w64 z (c .before .fits .got) in
     let up = subst (λ (y : ℤ). ltZ (pos 0) y ≡ true) same (c .if1 .taken) in
     subst (λ (y : ℤ). T (nonNeg y) × Fits w64 (natAbs y)) (sym same)
-      (above z up, record { fits = let h = natAbs-le z (c .before .fits .got .sfits) in omega (arith, h) })
+    (above z up, record { fits = let h = natAbs-le z (c .before .fits .got .sfits) in omega (arith, h) })
 
 returns : tie.Need-returns
 returns c =
@@ -44,8 +44,7 @@ returns-3 c =
     let e = c .before .before .before .args .error in
     let same = toZ-ofZ w64 z (c .before .before .before .fits .got) in
     let off = subst (λ (y : ℤ). ltZ (pos 0) y ≡ false) same (c .before .before .if1 .left) in
-    sym (ap ofError (sym (toZ-ofZ w32 e (c .before .before .before .fits .error)) ∙ ap (toZ w32) (c .if3 .taken)))
-    ∙ below z e off (λ n. c .before .if2 .left (ap (ofZ w64) n))
+    faulted e (λ n. c .if3 .taken (ap (ofZ w32) n)) ∙ below z e off (λ n. c .before .if2 .left (ap (ofZ w64) n))
 
 returns-4 : tie.Need-returns-4
 returns-4 c =
@@ -53,7 +52,8 @@ returns-4 c =
     let e = c .before .before .before .args .error in
     let same = toZ-ofZ w64 z (c .before .before .before .fits .got) in
     let off = subst (λ (y : ℤ). ltZ (pos 0) y ≡ false) same (c .before .before .if1 .left) in
-    faulted e (λ n. c .if3 .left (ap (ofZ w32) n)) ∙ below z e off (λ n. c .before .if2 .left (ap (ofZ w64) n))
+    sym (ap ofError (sym (toZ-ofZ w32 e (c .before .before .before .fits .error)) ∙ ap (toZ w32) (c .if3 .left)))
+    ∙ below z e off (λ n. c .before .if2 .left (ap (ofZ w64) n))
 
 pub answer-of-spec : {M : Type 1} → statement M
 answer-of-spec = tie.close (tie.spec cast-t4 returns returns-2 returns-3 returns-4)
