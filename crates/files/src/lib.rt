@@ -27,7 +27,7 @@ fn read_turn(fd: i32, buffer: &mut [u8], at: usize, left: u32) -> Transfer
 }
 
 // Reads until the buffer is full, the input ends or a read fails.
-pub fn read(fd: i32, buffer: &mut [u8]) -> Transfer
+fn read(fd: i32, buffer: &mut [u8]) -> Transfer
     ensures { λ t. ⌜ Within (length (now (buffer .entry))) t ⌝ }
 {
     let mut at: usize = 0;
@@ -57,7 +57,7 @@ fn write_turn(fd: i32, bytes: &[u8], at: usize, left: u32) -> Transfer
 }
 
 // Writes until all is written, or a write fails or takes nothing.
-pub fn write(fd: i32, bytes: &[u8]) -> Transfer
+fn write(fd: i32, bytes: &[u8]) -> Transfer
     ensures { λ t. ⌜ Within (length (now (bytes .entry))) t ⌝ }
 {
     let mut at: usize = 0;

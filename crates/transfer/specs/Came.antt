@@ -23,8 +23,8 @@ pub record Front (room left : ℕ) (answers : List Answer) (n i : ℕ) : Type 0 
 -- a file ends where the system says that there is nothing more, and then has what was moved; all is moved where the room is used up;
 -- it fails at a call that failed, and at one interruption too many; what comes behind the deciding answer is not looked at
 pub data Came (room left : ℕ) : List Answer → Transfer → Type 0 where
-  ended : (front rest : List Answer) (n i : ℕ) → Front room left front n i → Came room left (front ++ Nothing ∷ rest) (Ended n)
-  all : (front rest : List Answer) (n i k : ℕ) → Front room left front n i → room ≤ n + k → Came room left (front ++ Moved k ∷ rest) All
-  failed : (front rest : List Answer) (n i : ℕ) → Front room left front n i → Came room left (front ++ Faulted ∷ rest) Failed
-  tired : (front rest : List Answer) (n : ℕ) → Front room left front n left → Came room left (front ++ Interrupted ∷ rest) Failed
+  ended : (front rest : List Answer) (n i : ℕ) → Front room left front n i → Came room left (front ++ (Nothing ∷ rest)) (Ended n)
+  all : (front rest : List Answer) (n i k : ℕ) → Front room left front n i → room ≤ n + k → Came room left (front ++ (Moved k ∷ rest)) All
+  failed : (front rest : List Answer) (n i : ℕ) → Front room left front n i → Came room left (front ++ (Faulted ∷ rest)) Failed
+  tired : (front rest : List Answer) (n : ℕ) → Front room left front n left → Came room left (front ++ (Interrupted ∷ rest)) Failed
   going : (front : List Answer) (n i : ℕ) → Front room left front n i → Came room left front (Going n (left - i))
