@@ -1,32 +1,74 @@
--- What a reader hands on of a transfer that is over: the theorem that is bought.
--- To believe it, read Within, with takenOf of transfer.
-use Prim.Native.Nat.{ℕ, _<_, _≤_}
+-- What read and write may answer, and what a reader hands on of it: the theorems that are bought.
+-- To believe them, read Within, with answerOf, run and takenOf of transfer.
+use Prim.Native.Nat.{ℕ, zero, suc, _+_, _-_, _<_, _≤_}
 use native.Mathlib.Omega.{arith}
-use mathlib.Core.Path.{_≡_, refl, ap}
+use mathlib.Core.Path.{_≡_, refl, sym, ap, subst, _∙_}
+use mathlib.Core.List.{List, [], _∷_, map}
+use lib.IntN.{ℤ, pos, negsuc}
+use Rattle.transfer.specs.declared.Answer.{Answer}
+use Rattle.transfer.specs.declared.Answer.the-variants.{Moved, Nothing}
 use Rattle.transfer.specs.declared.Transfer.{Transfer}
 use Rattle.transfer.specs.declared.Transfer.the-variants.{Going, All, Ended, Failed}
-use Rattle.transfer.specs.Answers.{takenOf}
+use Rattle.transfer.specs.Answers.{answerOf, onward, run, takenOf}
+use Rattle.transfer.specs.Came.{Came}
+use Rattle.transfer.specs.Came.Came.{ended, all, failed, tired, going}
+use Rattle.transfer.specs.CameLaws.{comes}
+use Rattle.transfer.specs.AnswerLaws.{part-moved, all-moved}
 use Rattle.files.specs.Within.{Within}
 use Rattle.files.specs.TurnLaws.{in-buffer}
 
--- what is handed on lies in the buffer, and it is less than the whole buffer exactly where the input ended
+-- what is handed on lies in the buffer, and it is less than the whole buffer only where the input ended
 pub record HandedOn (room : ℕ) (t : Transfer) : Type 0 where
   pub inside : takenOf room t ≤ room
   pub of-an-end : takenOf room t < room → t ≡ Ended (takenOf room t)
-  pub at-an-end : (n : ℕ) → t ≡ Ended n → n < room
-  pub over : (at left : ℕ) → t ≡ Going at left → ⊥
-
-abbrev kind : Transfer → ℕ
-kind (Going at left) = 0
-kind All = 1
-kind (Ended n) = 2
-kind Failed = 3
 
 pub the-handed-on : (room : ℕ) (t : Transfer) → Within room t → HandedOn room t
-the-handed-on room (Ended n) h =
-    record { inside = in-buffer room (Ended n) h; of-an-end = λ g. refl; at-an-end = λ m e. let g = ap (takenOf room) e in omega (arith, h, g); over = λ a l e. absurd (let k = ap kind e in omega (arith, k)) }
-the-handed-on room All h =
-    record { inside = in-buffer room All h; of-an-end = λ g. absurd (omega (arith, g)); at-an-end = λ m e. absurd (let k = ap kind e in omega (arith, k)); over = λ a l e. absurd (let k = ap kind e in omega (arith, k)) }
-the-handed-on room Failed h =
-    record { inside = in-buffer room Failed h; of-an-end = λ g. absurd (omega (arith, g)); at-an-end = λ m e. absurd (let k = ap kind e in omega (arith, k)); over = λ a l e. absurd (let k = ap kind e in omega (arith, k)) }
+the-handed-on room (Ended n) h = record { inside = in-buffer room (Ended n) h; of-an-end = λ g. refl }
+the-handed-on room All h = record { inside = in-buffer room All h; of-an-end = λ g. absurd (omega (arith, g)) }
+the-handed-on room Failed h = record { inside = in-buffer room Failed h; of-an-end = λ g. absurd (omega (arith, g)) }
 the-handed-on room (Going at left) h = absurd h
+
+-- what calls came to: of each call what it answered, and the number of its error
+abbrev pub answersOf : List (ℤ × ℤ) → List Answer
+answersOf calls = map (λ c. answerOf (c .0) (c .1)) calls
+
+-- some row of calls comes to it
+pub record Possible (room left : ℕ) (t : Transfer) : Type 0 where
+  pub calls : List (ℤ × ℤ)
+  pub comes-to : t ≡ run room (answersOf calls) 0 left
+
+-- what is promised is exactly what can come of calls and is over; so that no stronger promise could be kept, whatever the system answers
+pub record Exactly (room left : ℕ) (t : Transfer) : Type 0 where
+  pub kept : Possible room left t → ((at fewer : ℕ) → t ≡ Going at fewer → ⊥) → Within room t
+  pub needed : Within room t → Possible room left t
+
+within-of : (room left : ℕ) (answers : List Answer) (t : Transfer) → Came room left answers t → ((at fewer : ℕ) → t ≡ Going at fewer → ⊥) → Within room t
+within-of room left answers t (ended front rest n i f) over = f .short
+within-of room left answers t (all front rest n i k f h) over = tt
+within-of room left answers t (failed front rest n i f) over = tt
+within-of room left answers t (tired front rest n f) over = tt
+within-of room left answers t (going front n i f) over = absurd (over n (left - i) refl)
+
+module _ (m left : ℕ) where
+  possible : (t : Transfer) → Within (suc m) t → Possible (suc m) left t
+  possible (Ended zero) h = record { calls = (pos 0, pos 0) ∷ []; comes-to = refl }
+  possible (Ended (suc n)) h =
+      let e : suc n ≡ 0 + suc n = omega arith in
+      record { calls = (pos (suc n), pos 0) ∷ (pos 0, pos 0) ∷ []; comes-to = ap Ended e ∙ ap (onward (run (suc m) (Nothing ∷ []))) (part-moved (suc m) 0 left (Moved (suc n)) (suc n) refl (omega (arith, h))) }
+  possible All h =
+      record { calls = (pos (suc m), pos 0) ∷ []; comes-to = ap (onward (run (suc m) [])) (all-moved (suc m) 0 left (Moved (suc m)) (suc m) refl (omega arith)) }
+  possible Failed h = record { calls = (negsuc 0, pos 5) ∷ []; comes-to = refl }
+  possible (Going at fewer) h = absurd h
+
+  exactly : (t : Transfer) → Exactly (suc m) left t
+  exactly t = record { kept = kept-of; needed = possible t }
+    where
+      kept-of : Possible (suc m) left t → ((at fewer : ℕ) → t ≡ Going at fewer → ⊥) → Within (suc m) t
+      kept-of p over =
+          let answers = answersOf (p .calls) in
+          subst (Within (suc m)) (sym (p .comes-to))
+          (within-of (suc m) left answers (run (suc m) answers 0 left) (comes (suc m) left (omega arith) answers) (λ at fewer e. over at fewer (p .comes-to ∙ e)))
+
+pub the-strength : (room left : ℕ) → 0 < room → (t : Transfer) → Exactly room left t
+the-strength zero left h t = absurd (omega (arith, h))
+the-strength (suc m) left h t = exactly m left t

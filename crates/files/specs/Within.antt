@@ -1,8 +1,11 @@
--- What a turn of a transfer may answer, and a transfer that is over: where it ended early, it moved fewer bytes than the buffer has.
--- More no contract of the system's calls allows: which bytes were moved, and when a call fails, only the system knows.
-use Prim.Native.Nat.{ℕ, _+_, _-_, _<_}
+-- What a transfer may come to by the system's calls: where it ended early, it moved fewer bytes than the buffer has. And how long a name may be.
+-- More can't be promised: which answers the system gives only the system knows, and Main says that any of these may come of some.
+use Prim.Native.Nat.{ℕ, _<_}
+use mathlib.Core.Path.{_≡_}
+use lib.IntN.{ℤ}
 use Rattle.transfer.specs.declared.Transfer.{Transfer}
 use Rattle.transfer.specs.declared.Transfer.the-variants.{Going, All, Ended, Failed}
+use Rattle.transfer.specs.Answers.{answerOf, goOn}
 
 abbrev pub Within : ℕ → Transfer → Type 0
 Within room (Ended n) = n < room
@@ -10,9 +13,15 @@ Within room All = Unit {0}
 Within room Failed = Unit {0}
 Within room (Going at left) = ⊥
 
--- one that goes on has less before it, by bytes or by interruptions
-abbrev pub Turned : ℕ → ℕ → ℕ → Transfer → Type 0
-Turned room at left (Ended n) = n < room
-Turned room at left All = Unit {0}
-Turned room at left Failed = Unit {0}
-Turned room at left (Going a l) = room - a + l < room - at + left
+-- a turn: the transfer as one more answer of the system makes it
+pub record Turned (room at left : ℕ) (t : Transfer) : Type 0 where
+  pub got : ℤ
+  pub error : ℤ
+  pub is : t ≡ goOn room at left (answerOf got error)
+
+-- what the name of a new file has behind the name that it is to take, and the length of a path with the 0 behind it
+abbrev pub mark : ℕ
+mark = 8
+
+abbrev pub path : ℕ
+path = 4096

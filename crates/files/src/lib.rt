@@ -1,7 +1,8 @@
 // Reading and writing by the system's calls, which the programs share: files by name, standard input and output.
 // What an answer of the system's means, and what a row of answers comes to, is proved in the crate transfer; here the calls are made.
 ghost use Prim.Native.Nat.{_<_, _≤_};
-ghost use lib.ListN.{length};
+ghost use mathlib.Core.Path.{_≡_};
+ghost use lib.ListN.{length, take};
 ghost use Rattle.files.specs.Within.{Within, Turned};
 use asked::Ask;
 use asked::patiently;
@@ -19,6 +20,7 @@ pub use beside::save;
 fn read_turn(fd: i32, buffer: &mut [u8], at: usize, left: u32) -> Transfer
     requires { ⌜ at < length (now buffer) ⌝ }
     ensures { λ t. ⌜ Turned (length (now (buffer .entry))) at left t ⌝ }
+    ensures { λ _. ⌜ take at (now (buffer .exit)) ≡ take at (now (buffer .entry)) ⌝ }
 {
     let room = buffer.len();
     let got = libc::read(fd, &mut buffer[at..]);
@@ -57,7 +59,7 @@ fn write_turn(fd: i32, bytes: &[u8], at: usize, left: u32) -> Transfer
 }
 
 // Writes until all is written, or a write fails or takes nothing.
-fn write(fd: i32, bytes: &[u8]) -> Transfer
+pub(crate) fn write(fd: i32, bytes: &[u8]) -> Transfer
     ensures { λ t. ⌜ Within (length (now (bytes .entry))) t ⌝ }
 {
     let mut at: usize = 0;
@@ -89,7 +91,7 @@ pub fn read_all(fd: i32, buffer: &mut [u8]) -> usize
 pub fn read_named(name: &[u8], buffer: &mut [u8]) -> usize
     ensures { λ n. ⌜ n ≤ length (now (buffer .exit)) ⌝ }
 {
-    let fd = patiently(Ask::Read, name);
+    let fd = patiently(Ask::Open, name);
     if fd < 0 {
         return buffer.len();
     }
@@ -98,14 +100,15 @@ pub fn read_named(name: &[u8], buffer: &mut [u8]) -> usize
     n
 }
 
-pub fn write_all(fd: i32, bytes: &[u8]) -> bool {
-    transfer::is_all(write(fd, bytes))
+// Writes for people to an output; where it cannot be written, there is nowhere left to tell it.
+pub fn tell(fd: i32, bytes: &[u8]) {
+    write(fd, bytes);
 }
 
 // Writes to standard output. What cannot be written is told on standard error, since a program has no exit status to tell it by.
 pub fn print(bytes: &[u8]) {
-    if !write_all(STDOUT_FILENO, bytes) {
-        write_all(
+    if !transfer::is_all(write(STDOUT_FILENO, bytes)) {
+        tell(
             STDERR_FILENO,
             b"standard output could not be written whole\n",
         );

@@ -44,10 +44,10 @@ fn save(title: &[u8], name: &[u8], bytes: &[u8]) {
 fn saves() {
     save(b"save: a file that is not there\n", b"made", b"first");
     show(b"the file\n", b"made");
-    show(b"beside it\n", b"made.new-a");
+    show(b"beside it\n", b"made.new-000");
     save(b"save: the same, shorter\n", b"made", b"2nd");
     show(b"the file\n", b"made");
-    show(b"beside it\n", b"made.new-a");
+    show(b"beside it\n", b"made.new-000");
     save(b"save: the same, empty\n", b"made", b"");
     show(b"the file\n", b"made");
 }
@@ -59,17 +59,17 @@ fn hindered_saves() {
         b"new",
     );
     show(b"the file\n", b"kept");
-    show(b"that other new file\n", b"kept.new-a");
-    show(b"the next name\n", b"kept.new-b");
+    show(b"that other new file\n", b"kept.new-000");
+    show(b"the next name\n", b"kept.new-001");
     save(b"save: over a folder\n", b"folder", b"new");
-    show(b"beside it\n", b"folder.new-a");
+    show(b"beside it\n", b"folder.new-000");
     save(
         b"save: in a folder that is not there\n",
         b"none/made",
         b"new",
     );
     save(b"save: a name of no bytes\n", b"", b"new");
-    show(b"beside it\n", b".new-a");
+    show(b"beside it\n", b".new-000");
     save(
         b"save: over a file as if it were a folder\n",
         b"eight/made",
@@ -78,8 +78,26 @@ fn hindered_saves() {
     show(b"that file\n", b"eight");
 }
 
+// Takes the right to write a file from everybody. The gate runs this program as a user whom that hinders.
+fn protect(name: &[u8]) {
+    let fd = os::open_read(name);
+    if fd < 0 || libc::fchmod(fd, 0o444) < 0 {
+        say(b"not protected\n");
+    }
+    libc::close(fd);
+}
+
+fn protected_save() {
+    save(b"save: a file to protect\n", b"marked", b"first");
+    protect(b"marked");
+    save(b"save: over it\n", b"marked", b"2nd");
+    show(b"the file\n", b"marked");
+    show(b"beside it\n", b"marked.new-000");
+}
+
 fn main() {
     reads();
     saves();
     hindered_saves();
+    protected_save();
 }

@@ -70,9 +70,9 @@ pub record Unmoved (room left : ℕ) (answers : List Answer) : Type 0 where
   pub unread : takenOf room (run room answers 0 left) ≡ room
   pub unwritten : isAll (run room answers 0 left) ≡ false
 
-pub the-failures : (room left : ℕ) (front rest : List Answer) (n i : ℕ) → Front room left front n i → Unmoved room left (front ++ (Faulted ∷ rest))
-the-failures room left front rest n i f =
-    let e = only room left _ _ (failed front rest n i f) in
+pub the-failures : (room left : ℕ) (answers : List Answer) → Came room left answers Failed → Unmoved room left answers
+the-failures room left answers came =
+    let e = only room left answers Failed came in
     record { unread = sym (ap (takenOf room) e); unwritten = sym (ap isAll e) }
 
 -- bytes count as written exactly where the last of them was taken, with no failure on the way

@@ -5,7 +5,7 @@ use native.Mathlib.Omega.{arith}
 use mathlib.Core.Path.{_≡_, refl, sym, ap, subst, _∙_}
 use lib.ListN.{length}
 use borrow.Author.Needs.{needs}
-use Rattle.files.specs.Within.{Within, Turned}
+use Rattle.files.specs.TurnLaws.{less}
 use Rattle.files.proofs.read.Statement.{statement}
 use Rattle.files.proofs.read.Tie as tie
 
@@ -25,7 +25,7 @@ enum-known-moved : tie.Need-enum-known-moved Inv-loop μ-loop
 enum-known-moved c = search needs
 
 loop-less : tie.Need-loop-less Inv-loop μ-loop
-loop-less c = let t = subst (Turned _ _ _) (c .before .moved .given .1) (c .before .before .before .before .before .read-turn .ensures) in omega (arith, t)
+loop-less c = let t = less _ _ _ (omega arith) (c .before .before .before .before .before .read-turn .ensures .0) (c .before .moved .given .1) in omega (arith, t)
 
 loop-again : tie.Need-loop-again Inv-loop μ-loop
 loop-again c = search needs
@@ -46,7 +46,7 @@ same-length-2 : tie.Need-same-length-2 Inv-loop μ-loop
 same-length-2 c = search needs
 
 returns-2 : tie.Need-returns-2 Inv-loop μ-loop
-returns-2 c = let t = subst (Turned _ _ _) (c .before .count .given .1) (c .before .before .before .before .before .read-turn .ensures) in omega (arith, t)
+returns-2 c = let t = less _ _ _ (omega arith) (c .before .before .before .before .before .read-turn .ensures .0) (c .before .count .given .1) in omega (arith, t)
 
 enum-told-2 : tie.Need-enum-told-2 Inv-loop μ-loop
 enum-told-2 c = search needs

@@ -1,10 +1,14 @@
 -- `files::read_turn` meets its contract, by what `answer_of` and `go_on` promise.
 -- Assumes nothing.
 use native.Mathlib.Omega.{arith}
+use mathlib.Core.Path.{ap, _∙_}
+use Prim.Native.Nat.{_-_}
+use lib.ListN.{length}
 use mir.Syntax.{w32, w64}
 use mir.Val.{toZ, ofZ}
 use borrow.Author.Needs.{needs}
-use Rattle.files.specs.TurnLaws.{turn}
+use borrow.Rule.Slice.PartMut.{take-put}
+use Rattle.transfer.specs.Answers.{goOn}
 use Rattle.files.proofs.read_turn.Statement.{statement}
 use Rattle.files.proofs.read_turn.Tie as tie
 
@@ -34,8 +38,11 @@ same-length c = search needs
 
 returns : tie.Need-returns
 returns c =
-    turn _ _ _ (omega arith) (toZ w64 (ofZ w64 (c .before .before .before .before .before .read .result))) (toZ w32 (ofZ w32 (c .before .before .errno .result))) _ _
-    (c .before .answer-of .ensures) (c .go-on .ensures)
+    let xs = c .before .before .before .before .before .before .before .before .args .buffer .now in
+    let at = c .before .before .before .before .before .before .before .before .args .at in (
+      record { got = toZ w64 (ofZ w64 (c .before .before .before .before .before .read .result)); error = toZ w32 (ofZ w32 (c .before .before .errno .result)); is = c .go-on .ensures ∙ ap (goOn _ _ _) (c .before .answer-of .ensures) },
+      take-put at (length xs - at) xs (c .before .before .before .before .before .read .last .1 .0) (omega arith),
+    )
 
 pub read-turn-spec : {M : Type 1} → statement M
 read-turn-spec =

@@ -1,10 +1,11 @@
 -- `files::write_turn` meets its contract, by what `answer_of` and `go_on` promise.
 -- Assumes nothing.
 use native.Mathlib.Omega.{arith}
+use mathlib.Core.Path.{ap, _∙_}
 use mir.Syntax.{w32, w64}
 use mir.Val.{toZ, ofZ}
 use borrow.Author.Needs.{needs}
-use Rattle.files.specs.TurnLaws.{turn}
+use Rattle.transfer.specs.Answers.{goOn}
 use Rattle.files.proofs.write_turn.Statement.{statement}
 use Rattle.files.proofs.write_turn.Tie as tie
 
@@ -31,8 +32,7 @@ go-on-requires c κs = search needs
 
 returns : tie.Need-returns
 returns c =
-    turn _ _ _ (omega arith) (toZ w64 (ofZ w64 (c .before .before .before .write .result))) (toZ w32 (ofZ w32 (c .before .before .errno .result))) _ _
-    (c .before .answer-of .ensures) (c .go-on .ensures)
+    record { got = toZ w64 (ofZ w64 (c .before .before .before .write .result)); error = toZ w32 (ofZ w32 (c .before .before .errno .result)); is = c .go-on .ensures ∙ ap (goOn _ _ _) (c .before .answer-of .ensures) }
 
 pub write-turn-spec : {M : Type 1} → statement M
 write-turn-spec =

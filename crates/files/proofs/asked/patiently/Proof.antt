@@ -5,16 +5,16 @@ use Rattle.files.proofs.asked.patiently.Statement.{statement}
 use Rattle.files.proofs.asked.patiently.Tie as tie
 
 abbrev Inv-loop : tie.InvT-loop
-Inv-loop ask name left₀ left = Unit {0}
+Inv-loop ask name left₀ answer₀ left answer = Unit {0}
 
 abbrev μ-loop : tie.MeasureT-loop
-μ-loop ask name left₀ left = left
-
-loop-holds : tie.Need-loop-holds Inv-loop μ-loop
-loop-holds c = tt
+μ-loop ask name left₀ answer₀ left answer = left
 
 once-requires : tie.Need-once-requires Inv-loop μ-loop
 once-requires c κs = tt
+
+loop-holds : tie.Need-loop-holds Inv-loop μ-loop
+loop-holds c = tt
 
 returns : tie.Need-returns Inv-loop μ-loop
 returns c = tt
@@ -24,6 +24,9 @@ errno-requires c κs = tt
 
 returns-2 : tie.Need-returns-2 Inv-loop μ-loop
 returns-2 c = tt
+
+once-requires-2 : tie.Need-once-requires-2 Inv-loop μ-loop
+once-requires-2 c κs = tt
 
 sub-left : tie.Need-sub-left Inv-loop μ-loop
 sub-left c = omega arith
@@ -43,11 +46,12 @@ patiently-spec =
     (tie.spec
     Inv-loop
     μ-loop
-    loop-holds
     once-requires
+    loop-holds
     returns
     errno-requires
     returns-2
+    once-requires-2
     sub-left
     loop-less
     loop-again

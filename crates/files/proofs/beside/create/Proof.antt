@@ -1,27 +1,24 @@
--- `files::beside::create` is safe and ends: at each turn a letter fewer is left.
+-- `files::beside::create` is safe and ends: at each turn a name fewer is left to try.
 -- Assumes nothing.
-use Prim.Native.Nat.{_-_, _<_}
+use Prim.Native.Nat.{_-_}
 use native.Mathlib.Omega.{arith}
-use mathlib.Core.Path.{_≡_, refl, _∙_}
-use lib.ListN.{length, length-set}
+use mathlib.Core.Path.{_≡_, refl}
+use lib.ListN.{length}
 use borrow.Author.Needs.{needs}
 use Rattle.files.proofs.beside.create.Statement.{statement}
 use Rattle.files.proofs.beside.create.Tie as tie
 
 abbrev Inv-loop : tie.InvT-loop
-Inv-loop path₀ last letter₀ path letter = (length path ≡ length path₀) × (last < length path₀)
+Inv-loop path₀ number₀ path number = length path ≡ length path₀
 
 abbrev μ-loop : tie.MeasureT-loop
-μ-loop path₀ last letter₀ path letter = 123 - letter
-
-sub-last : tie.Need-sub-last Inv-loop μ-loop
-sub-last c = search needs
+μ-loop path₀ number₀ path number = 1000 - number
 
 loop-holds : tie.Need-loop-holds Inv-loop μ-loop
-loop-holds c = (refl, omega arith)
+loop-holds c = refl
 
-slice-write-path : tie.Need-slice-write-path Inv-loop μ-loop
-slice-write-path c = let i = c .before .loop .inv in omega (arith, i .0, i .1)
+put-number-requires : tie.Need-put-number-requires Inv-loop μ-loop
+put-number-requires c κs = let i = c .before .before .loop .inv in omega (arith, i)
 
 patiently-requires : tie.Need-patiently-requires Inv-loop μ-loop
 patiently-requires c κs = search needs
@@ -41,14 +38,14 @@ same-length-2 c = search needs
 returns-2 : tie.Need-returns-2 Inv-loop μ-loop
 returns-2 c = tt
 
-add-letter : tie.Need-add-letter Inv-loop μ-loop
-add-letter c = search needs
+add-number : tie.Need-add-number Inv-loop μ-loop
+add-number c = search needs
 
 loop-less : tie.Need-loop-less Inv-loop μ-loop
 loop-less c = omega arith
 
 loop-again : tie.Need-loop-again Inv-loop μ-loop
-loop-again c = let i = c .before .before .before .before .before .before .loop .inv in (length-set (c .before .before .before .before .before .before .loop .path) _ _ ∙ i .0, i .1)
+loop-again c = search needs
 
 same-length-3 : tie.Need-same-length-3 Inv-loop μ-loop
 same-length-3 c = search needs
@@ -62,16 +59,15 @@ create-spec =
     (tie.spec
     Inv-loop
     μ-loop
-    sub-last
     loop-holds
-    slice-write-path
+    put-number-requires
     patiently-requires
     same-length
     returns
     errno-requires
     same-length-2
     returns-2
-    add-letter
+    add-number
     loop-less
     loop-again
     same-length-3
