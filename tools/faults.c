@@ -5,10 +5,10 @@ long syscall(long number, ...);
 char *getenv(const char *name);
 int *__errno_location(void);
 
-enum { SYS_READ = 0, SYS_WRITE = 1, SYS_OPEN = 2, SYS_CLOSE = 3, SYS_MMAP = 9, SYS_GETPID = 39, SYS_KILL = 62, SYS_FSYNC = 74,
+enum { SYS_READ = 0, SYS_WRITE = 1, SYS_OPEN = 2, SYS_CLOSE = 3, SYS_MMAP = 9, SYS_ACCESS = 21, SYS_GETPID = 39, SYS_KILL = 62, SYS_FSYNC = 74,
        SYS_RENAME = 82, SYS_UNLINK = 87, SYS_EXIT_GROUP = 231 };
 enum { READ_WRITE = 2, PROT_BOTH = 3, MAP_SHARED = 1, SIGKILL = 9 };
-enum { ANY, OPEN, READ, WRITE, FSYNC, CLOSE, RENAME, UNLINK, KINDS };
+enum { ANY, OPEN, READ, WRITE, FSYNC, CLOSE, RENAME, UNLINK, ACCESS, KINDS };
 
 /* What befalls a call: 0 for nothing, an error by its number, or one of these; from DONE on, an error though the call is done. */
 enum { SHORT = -1, ZERO = -2, KILLED = -3, DONE = 1000 };
@@ -99,6 +99,12 @@ int open(const char *name, int flags, unsigned mode)
     return (int)told(OPEN, -1, flags, name, "", struck, struck > 0 ? fail(struck) : syscall(SYS_OPEN, name, flags, mode));
 }
 
+int access(const char *name, int mode)
+{
+    long struck = fault(ACCESS);
+    return (int)told(ACCESS, -1, mode, name, "", struck, struck > 0 ? fail(struck) : syscall(SYS_ACCESS, name, mode));
+}
+
 int fsync(int fd)
 {
     long struck = fault(FSYNC);
@@ -115,6 +121,8 @@ int close(int fd)
 static int by_name(int kind, long number, const char *name, const char *other)
 {
     long struck = fault(kind), result = struck <= 0 || struck >= DONE ? syscall(number, name, other) : -1;
+    if (struck >= DONE && result < 0)
+        struck = 0; /* It failed by itself. */
     return (int)told(kind, -1, 0, name, other, struck, struck > 0 ? fail(struck) : result);
 }
 

@@ -3,12 +3,10 @@
 ghost use Prim.Native.Nat.{_≤_};
 ghost use mathlib.Core.Path.{_≡_};
 ghost use Rattle.transfer.specs.Answers.{answerOf, goOn, takenOf, isAll};
+use libc::EINTR;
 
-// How often one transfer may be interrupted by a signal. It is tried again so many times, since a loop must end; the next one is a failure.
+// So often a call on one file is tried again where a signal interrupted it; since a loop must end, the next interruption is a failure.
 pub const INTERRUPTIONS: u32 = 1_000_000;
-
-// The number by which the system tells that a signal came before anything was moved.
-const EINTR: i32 = 4;
 
 // What one call came to: it moved so many bytes, there were none to move, a signal came first, or it failed.
 pub enum Answer {
