@@ -2,7 +2,10 @@
 // What an answer of the system's means, and what a row of answers comes to, is proved in the crate transfer; here the calls are made.
 ghost use Prim.Native.Nat.{_<_, _≤_};
 ghost use mathlib.Core.Path.{_≡_};
+ghost use lib.Dec.{T};
+ghost use lib.IntN.{pos};
 ghost use lib.ListN.{length, take};
+ghost use lib.Signed.{ltZ};
 ghost use Rattle.files.specs.Within.{Within, Turned};
 use asked::Ask;
 use asked::patiently;
@@ -78,25 +81,29 @@ pub(crate) fn write(fd: i32, bytes: &[u8]) -> Transfer
     Transfer::All
 }
 
-// The number of bytes of an input that was read to its end. Where it is longer than the buffer, or a read fails, it is the buffer's length:
-// a buffer for a file has one byte more than the file may have, so that this stands for a file that is not to be had.
+// The number of bytes of an input that was read to its end. Where it is longer than the buffer, or a read fails, or it could not be opened,
+// which a descriptor below 0 tells, it is the buffer's length: a buffer for a file has one byte more than the file may have, so that this
+// stands for a file that is not to be had.
 pub fn read_all(fd: i32, buffer: &mut [u8]) -> usize
     ensures { λ n. ⌜ n ≤ length (now (buffer .exit)) ⌝ }
+    ensures { λ n. ⌜ (T (ltZ fd (pos 0)) → n ≡ length (now (buffer .exit))) ⌝ }
 {
     let room = buffer.len();
+    if fd < 0 {
+        return room;
+    }
     transfer::taken(room, read(fd, buffer))
 }
 
-// The same of a file by its name; one that cannot be opened is not to be had either.
+// The same of a file by its name.
 pub fn read_named(name: &[u8], buffer: &mut [u8]) -> usize
     ensures { λ n. ⌜ n ≤ length (now (buffer .exit)) ⌝ }
 {
     let fd = patiently(Ask::Open, name);
-    if fd < 0 {
-        return buffer.len();
-    }
     let n = read_all(fd, buffer);
-    libc::close(fd);
+    if fd >= 0 {
+        libc::close(fd);
+    }
     n
 }
 
