@@ -1,5 +1,6 @@
 /* The shim of tools/faults: it stands before the C library's calls on files, makes those of a plan fail, and logs what became of each.
-   It takes no header and no library, so that any compiler for x86-64 makes it and any glibc loads it; the system is called by numbers. */
+   It includes no header and is linked to no library, and of the C library it uses syscall, getenv and errno's place alone, so that any
+   compiler for x86-64 makes it and any glibc loads it. */
 
 long syscall(long number, ...);
 char *getenv(const char *name);
@@ -10,7 +11,7 @@ enum { SYS_READ = 0, SYS_WRITE = 1, SYS_OPEN = 2, SYS_CLOSE = 3, SYS_MMAP = 9, S
 enum { READ_WRITE = 2, PROT_BOTH = 3, MAP_SHARED = 1, SIGKILL = 9 };
 enum { ANY, OPEN, READ, WRITE, FSYNC, CLOSE, RENAME, UNLINK, ACCESS, KINDS };
 
-/* What befalls a call: 0 for nothing, an error by its number, or one of these; from DONE on, an error though the call is done. */
+/* What befalls a call: 0 for nothing, an error by its number, or one of these; from DONE on, an error though the call is done (rename, unlink). */
 enum { SHORT = -1, ZERO = -2, KILLED = -3, DONE = 1000 };
 enum { ITEMS = 8, RECORDS = 4000, NAME = 32 };
 

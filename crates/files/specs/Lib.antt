@@ -1,4 +1,4 @@
--- What the readers and writers promise of how far they came: Within. Main has the theorem.
+-- What the readers and writers promise of how far they came: Within. Main has the theorems.
 -- What rests on the system alone is said in docs/PROMISES.md.
 pub mod Within
 pub mod TurnLaws

@@ -1,10 +1,11 @@
 -- What read and write may answer, and what a reader hands on of it: the theorems that are bought.
--- To believe them, read Within, with answerOf, run and takenOf of transfer.
+-- To believe them, read Within, with answerOf, run and takenOf of transfer, and Moved of the system's contracts.
 use Prim.Native.Nat.{ℕ, zero, suc, _+_, _-_, _<_, _≤_}
 use native.Mathlib.Omega.{arith}
 use mathlib.Core.Path.{_≡_, refl, sym, ap, subst, _∙_}
 use mathlib.Core.List.{List, [], _∷_, map}
 use lib.IntN.{ℤ, pos, negsuc}
+use Rattle.libc.specs.Io.{Moved as MovedOf}
 use Rattle.transfer.specs.declared.Answer.{Answer}
 use Rattle.transfer.specs.declared.Answer.the-variants.{Moved, Nothing}
 use Rattle.transfer.specs.declared.Transfer.{Transfer}
@@ -14,7 +15,7 @@ use Rattle.transfer.specs.Came.{Came}
 use Rattle.transfer.specs.Came.Came.{ended, all, failed, tired, going}
 use Rattle.transfer.specs.CameLaws.{comes}
 use Rattle.transfer.specs.AnswerLaws.{part-moved, all-moved}
-use Rattle.files.specs.Within.{Within}
+use Rattle.files.specs.Within.{Within, mark, path}
 use Rattle.files.specs.TurnLaws.{in-buffer}
 
 -- what is handed on lies in the buffer, and it is less than the whole buffer only where the input ended
@@ -32,12 +33,23 @@ the-handed-on room (Going at left) h = absurd h
 abbrev pub answersOf : List (ℤ × ℤ) → List Answer
 answersOf calls = map (λ c. answerOf (c .0) (c .1)) calls
 
--- some row of calls comes to it
+-- calls that keep the system's contracts: each is lent the room that is left, and answers -1 or how many bytes of it were moved
+abbrev pub roomLeft : ℕ → ℤ → ℕ
+roomLeft room (pos k) = room - k
+roomLeft room (negsuc k) = room
+
+abbrev pub Allowed : ℕ → List (ℤ × ℤ) → Type 0
+Allowed room [] = Unit {0}
+Allowed room (c ∷ calls) = MovedOf room (c .0) × Allowed (roomLeft room (c .0)) calls
+
+-- some row of such calls comes to it
 pub record Possible (room left : ℕ) (t : Transfer) : Type 0 where
   pub calls : List (ℤ × ℤ)
+  pub allowed : Allowed room calls
   pub comes-to : t ≡ run room (answersOf calls) 0 left
 
--- what is promised is exactly what can come of calls and is over; so that no stronger promise could be kept, whatever the system answers
+-- of a buffer that is not empty, what is promised is exactly what comes of some such row and is over; so that by these contracts alone no
+-- stronger promise could be kept
 pub record Exactly (room left : ℕ) (t : Transfer) : Type 0 where
   pub kept : Possible room left t → ((at fewer : ℕ) → t ≡ Going at fewer → ⊥) → Within room t
   pub needed : Within room t → Possible room left t
@@ -51,13 +63,13 @@ within-of room left answers t (going front n i f) over = absurd (over n (left - 
 
 module _ (m left : ℕ) where
   possible : (t : Transfer) → Within (suc m) t → Possible (suc m) left t
-  possible (Ended zero) h = record { calls = (pos 0, pos 0) ∷ []; comes-to = refl }
+  possible (Ended zero) h = record { calls = (pos 0, pos 0) ∷ []; allowed = (omega arith, tt); comes-to = refl }
   possible (Ended (suc n)) h =
       let e : suc n ≡ 0 + suc n = omega arith in
-      record { calls = (pos (suc n), pos 0) ∷ (pos 0, pos 0) ∷ []; comes-to = ap Ended e ∙ ap (onward (run (suc m) (Nothing ∷ []))) (part-moved (suc m) 0 left (Moved (suc n)) (suc n) refl (omega (arith, h))) }
+      record { calls = (pos (suc n), pos 0) ∷ (pos 0, pos 0) ∷ []; allowed = (omega (arith, h), (omega arith, tt)); comes-to = ap Ended e ∙ ap (onward (run (suc m) (Nothing ∷ []))) (part-moved (suc m) 0 left (Moved (suc n)) (suc n) refl (omega (arith, h))) }
   possible All h =
-      record { calls = (pos (suc m), pos 0) ∷ []; comes-to = ap (onward (run (suc m) [])) (all-moved (suc m) 0 left (Moved (suc m)) (suc m) refl (omega arith)) }
-  possible Failed h = record { calls = (negsuc 0, pos 5) ∷ []; comes-to = refl }
+      record { calls = (pos (suc m), pos 0) ∷ []; allowed = (omega arith, tt); comes-to = ap (onward (run (suc m) [])) (all-moved (suc m) 0 left (Moved (suc m)) (suc m) refl (omega arith)) }
+  possible Failed h = record { calls = (negsuc 0, pos 5) ∷ []; allowed = (refl, tt); comes-to = refl }
   possible (Going at fewer) h = absurd h
 
   exactly : (t : Transfer) → Exactly (suc m) left t
@@ -72,3 +84,7 @@ module _ (m left : ℕ) where
 pub the-strength : (room left : ℕ) → 0 < room → (t : Transfer) → Exactly room left t
 the-strength zero left h t = absurd (omega (arith, h))
 the-strength (suc m) left h t = exactly m left t
+
+-- `.new-` and three digits; the system's longest path and the 0 behind it
+pub the-lengths : (mark ≡ 5 + 3) × (path ≡ 4096)
+the-lengths = (refl, refl)

@@ -13,7 +13,7 @@ Within room All = Unit {0}
 Within room Failed = Unit {0}
 Within room (Going at left) = ⊥
 
--- a turn: the transfer as one more answer of the system makes it
+-- a turn: the transfer as some one answer more makes it; that this is the system's is not said
 pub record Turned (room at left : ℕ) (t : Transfer) : Type 0 where
   pub got : ℤ
   pub error : ℤ

@@ -1,5 +1,5 @@
 // A file saved whole: its bytes go to a new file beside it, which takes its name only when all of them have reached the device.
-// So a name holds the old bytes or the new ones, whatever fails on the way, and a failure leaves no new file behind.
+// So a name holds the old bytes or the new ones, whatever fails on the way; a failure takes the new file away again, if the system lets it.
 ghost use Prim.Native.Nat.{_+_, _<_, _≤_};
 ghost use mathlib.Core.Bool.{true};
 ghost use mathlib.Core.Path.{_≡_};

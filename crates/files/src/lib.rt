@@ -81,7 +81,7 @@ pub(crate) fn write(fd: i32, bytes: &[u8]) -> Transfer
     Transfer::All
 }
 
-// The number of bytes of an input that was read to its end. Where it is longer than the buffer, or a read fails, or it could not be opened,
+// The number of bytes of an input that was read to its end. Where it has as many as the buffer or more, or a read fails, or it could not be opened,
 // which a descriptor below 0 tells, it is the buffer's length: a buffer for a file has one byte more than the file may have, so that this
 // stands for a file that is not to be had.
 pub fn read_all(fd: i32, buffer: &mut [u8]) -> usize

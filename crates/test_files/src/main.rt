@@ -1,5 +1,5 @@
 // Reads and saves files of the folder that it runs in, as the programs do, and prints what came of it, each under a line that names the case.
-// After a file is saved, or not, it shows the file, and whether a new file was left beside it.
+// After most files that are saved, or not, it shows the file, or whether a new file was left beside it.
 
 // One byte more than a file may have here.
 const ROOM: usize = 9;

@@ -9,9 +9,9 @@ use lib.Dec.{T, eqb, eqb→eq, ltb, lt→ltb}
 use lib.IntN.{ℤ, pos, negsuc, natAbs}
 use lib.Signed.{ltZ, nonNeg}
 use Rattle.transfer.specs.declared.Answer.{Answer}
-use Rattle.transfer.specs.declared.Answer.the-variants.{Moved, Nothing, Interrupted, Faulted}
+use Rattle.transfer.specs.declared.Answer.the-variants.{Moved, Interrupted, Faulted}
 use Rattle.transfer.specs.declared.Transfer.{Transfer}
-use Rattle.transfer.specs.declared.Transfer.the-variants.{Going, All, Ended, Failed}
+use Rattle.transfer.specs.declared.Transfer.the-variants.{Going, All}
 use Rattle.transfer.specs.Answers.{answerOf, ofError, again, goOn}
 
 pub above : (got : ℤ) → ltZ (pos 0) got ≡ true → T (nonNeg got)

@@ -1,7 +1,6 @@
 -- What a row of the system's answers comes to, told of the answers alone: which of them decides it, and what stood before that one.
 -- Answers computes the same by one answer after the other; Main has the theorem between the two.
 use Prim.Native.Nat.{ℕ, suc, _+_, _-_, _<_, _≤_}
-use mathlib.Core.Path.{_≡_}
 use mathlib.Core.List.{List, [], _∷_, _++_}
 use Rattle.transfer.specs.declared.Answer.{Answer}
 use Rattle.transfer.specs.declared.Answer.the-variants.{Moved, Nothing, Interrupted, Faulted}
@@ -21,7 +20,8 @@ pub record Front (room left : ℕ) (answers : List Answer) (n i : ℕ) : Type 0 
   pub patient : i ≤ left
 
 -- a file ends where the system says that there is nothing more, and then has what was moved; all is moved where the room is used up;
--- it fails at a call that failed, and at one interruption too many; what comes behind the deciding answer is not looked at
+-- it fails at a call that failed, and at one interruption too many; what comes behind the deciding answer is not looked at. Where none
+-- decides, it goes on, with what was moved and the interruptions that are left
 pub data Came (room left : ℕ) : List Answer → Transfer → Type 0 where
   ended : (front rest : List Answer) (n i : ℕ) → Front room left front n i → Came room left (front ++ (Nothing ∷ rest)) (Ended n)
   all : (front rest : List Answer) (n i k : ℕ) → Front room left front n i → room ≤ n + k → Came room left (front ++ (Moved k ∷ rest)) All

@@ -5,20 +5,19 @@ use native.Mathlib.Omega.{arith}
 use mathlib.Core.Path.{_≡_, refl, sym, ap, subst, _∙_}
 use mathlib.Core.Bool.{Bool, true, false, not, cond}
 use mathlib.Core.List.{List, [], _∷_, _++_, append-assoc, append-nil}
-use lib.Arith.{le→nltb}
-use lib.Dec.{T, ltb, lt→ltb, ltb→lt, nltb→le}
+use lib.Dec.{T, ltb, ltb→lt, nltb→le}
 use Rattle.transfer.specs.declared.Answer.{Answer}
 use Rattle.transfer.specs.declared.Answer.the-variants.{Moved, Nothing, Interrupted, Faulted}
 use Rattle.transfer.specs.declared.Transfer.{Transfer}
-use Rattle.transfer.specs.declared.Transfer.the-variants.{Going, All, Ended, Failed}
-use Rattle.transfer.specs.Answers.{again, goOn, onward, run}
+use Rattle.transfer.specs.declared.Transfer.the-variants.{Going, All}
+use Rattle.transfer.specs.Answers.{again, onward, run}
 use Rattle.transfer.specs.AnswerLaws.{part-moved, all-moved, tried-again}
 use Rattle.transfer.specs.Came.{Moves, Front, Came}
 use Rattle.transfer.specs.Came.Moves.{none, more, signal}
 use Rattle.transfer.specs.Came.Came.{ended, all, failed, tired, going}
 
 -- a front leads on to what is behind it, with what it moved and as many interruptions fewer
-pub led : (room : ℕ) {front : List Answer} {n i : ℕ} → Moves front n i → (rest : List Answer) (at left : ℕ) → at + n < room → i ≤ left → run room (front ++ rest) at left ≡ run room rest (at + n) (left - i)
+led : (room : ℕ) {front : List Answer} {n i : ℕ} → Moves front n i → (rest : List Answer) (at left : ℕ) → at + n < room → i ≤ left → run room (front ++ rest) at left ≡ run room rest (at + n) (left - i)
 led room none rest at left h g = let e : at + 0 ≡ at = omega arith in let f : left - 0 ≡ left = omega arith in sym (ap (λ x. run room rest x (left - 0)) e ∙ ap (run room rest at) f)
 led room (more {answers} {n} {i} k m) rest at left h g =
     let e : (at + k) + n ≡ at + (k + n) = omega arith in
@@ -31,7 +30,7 @@ led room (signal {answers} {n} {i} m) rest at left h g =
     ∙ led room m rest at (left - 1) h (omega (arith, g))
     ∙ ap (run room rest (at + n)) e
 
--- what follows a row of answers: the answers of a front may stand there one by one
+-- such answers with one more behind them, bytes or a signal, are such answers again
 put : {front : List Answer} {n i : ℕ} (k : ℕ) → Moves front n i → Moves (front ++ (Moved k ∷ [])) (n + k) i
 put k none = let e : k + 0 ≡ 0 + k = omega arith in subst (λ x. Moves (Moved k ∷ []) x 0) e (more k none)
 put k (more {answers} {n} {i} j m) = let e : j + (n + k) ≡ (j + n) + k = omega arith in subst (λ x. Moves (Moved j ∷ (answers ++ (Moved k ∷ []))) x i) e (more j (put k m))

@@ -27,7 +27,7 @@ pub record Answered (error : ℤ) : Type 0 where
 pub the-answers : (error : ℤ) → Answered error
 the-answers error = record { moved = λ k. refl; nothing = refl; signal = λ k e. ap (answerOf (negsuc k)) e; failure = λ k other. sym (faulted error other) }
 
--- what is computed of a row of answers is what the row comes to, and nothing else
+-- of a buffer that is not empty: what is computed of a row of answers is what the row comes to, and nothing else
 pub record Tells (room left : ℕ) (answers : List Answer) : Type 0 where
   pub comes-to : Came room left answers (run room answers 0 left)
   pub nothing-else : (t : Transfer) → Came room left answers t → t ≡ run room answers 0 left
@@ -75,7 +75,7 @@ the-failures room left answers came =
     let e = only room left answers Failed came in
     record { unread = sym (ap (takenOf room) e); unwritten = sym (ap isAll e) }
 
--- bytes count as written exactly where the last of them was taken, with no failure on the way
+-- bytes, where there are any, count as written exactly where the last of them was taken, with no failure on the way
 pub record WholeOutput (room left : ℕ) (answers : List Answer) : Type 0 where
   pub front : List Answer
   pub rest : List Answer

@@ -1,6 +1,5 @@
 -- `files::write_turn` meets its contract, by what `answer_of` and `go_on` promise.
 -- Assumes nothing.
-use native.Mathlib.Omega.{arith}
 use mathlib.Core.Path.{ap, _∙_}
 use mir.Syntax.{w32, w64}
 use mir.Val.{toZ, ofZ}

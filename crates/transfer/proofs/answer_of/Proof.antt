@@ -1,7 +1,7 @@
 -- `transfer::answer_of` meets its contract. Numbers below 0 are bits in a local; that they fit is what the parameters' types say.
 -- Assumes nothing.
 use native.Mathlib.Omega.{arith}
-use mathlib.Core.Path.{_≡_, refl, sym, ap, subst, _∙_}
+use mathlib.Core.Path.{_≡_, sym, ap, subst, _∙_}
 use mathlib.Core.Bool.{true, false}
 use lib.IntN.{ℤ, pos, natAbs}
 use lib.Dec.{T}
