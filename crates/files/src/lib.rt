@@ -62,7 +62,7 @@ fn write_turn(fd: i32, bytes: &[u8], at: usize, left: u32) -> Transfer
 }
 
 // Writes until all is written, or a write fails or takes nothing.
-pub(crate) fn write(fd: i32, bytes: &[u8]) -> Transfer
+pub fn write(fd: i32, bytes: &[u8]) -> Transfer
     ensures { λ t. ⌜ Within (length (now (bytes .entry))) t ⌝ }
 {
     let mut at: usize = 0;
@@ -107,17 +107,16 @@ pub fn read_named(name: &[u8], buffer: &mut [u8]) -> usize
     n
 }
 
-// Writes for people to an output; where it cannot be written, there is nowhere left to tell it.
-pub fn tell(fd: i32, bytes: &[u8]) {
-    write(fd, bytes);
-}
-
 // Writes to standard output. What cannot be written is told on standard error, since a program has no exit status to tell it by.
-pub fn print(bytes: &[u8]) {
-    if !transfer::is_all(write(STDOUT_FILENO, bytes)) {
-        tell(
+pub fn print(bytes: &[u8]) -> Transfer
+    ensures { λ t. ⌜ Within (length (now (bytes .entry))) t ⌝ }
+{
+    let done = write(STDOUT_FILENO, bytes);
+    if !transfer::is_all(done) {
+        write(
             STDERR_FILENO,
             b"standard output could not be written whole\n",
         );
     }
+    done
 }

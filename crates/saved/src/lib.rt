@@ -39,7 +39,7 @@ fn tell(text: &[u8], r: Refusal, people: i32) {
     print_refused(r);
     let mut out = [0u8; ADVICE_ROOM];
     let end = advice::advise(text, r, &mut out);
-    files::tell(people, &out[0..end]);
+    files::write(people, &out[0..end]);
 }
 
 // A book that cannot be written is refused as a file that cannot be read is, but people are told which of the two it was.
@@ -47,7 +47,7 @@ fn tell_unsaved(people: i32) {
     print_refused(Refusal::Input);
     let mut out = [0u8; ADVICE_ROOM];
     let end = advice::advise_unsaved(&mut out);
-    files::tell(people, &out[0..end]);
+    files::write(people, &out[0..end]);
 }
 
 // Saves the book of these bytes, which are as read_rules left them; people are told of a refusal on the descriptor given for them.
