@@ -152,6 +152,45 @@ static void type_rules(const char *rules, size_t area)
     used_length = answer[0];
 }
 
+/* What a help page can say of a number that is no number, by the code alone. */
+static void explain(const char *call, size_t code, size_t place)
+{
+    if (code == LUBI_NUMBER)
+        printf("%s: the number at byte %zu runs on past three groups\n", call, place);
+    else if (code == LUBI_PADDED)
+        printf("%s: the number at byte %zu is padded with a group of 0\n", call, place);
+    else
+        printf("%s: code %zu at %zu\n", call, code, place);
+}
+
+/* One bad number, met by every call that reads a book. */
+static void bad_book(const uint8_t *bad, size_t length)
+{
+    static uint8_t text[LUBI_TEXT];
+    size_t answer[LUBI_ANSWER];
+    size_t code = lubi_check_book(bad, length, answer);
+    explain("check", code, answer[0]);
+    code = lubi_rule_kind(bad, length, 0, answer);
+    explain("kind", code, answer[0]);
+    code = lubi_compare(bad, length, make_table(), labels, LUBI_STATES, targets, LUBI_TARGETS, text, LUBI_TEXT, work, LUBI_WORK, answer);
+    explain("compare", code, answer[0]);
+    code = lubi_build(bad, length, labels, LUBI_STATES, targets, LUBI_TARGETS, work, LUBI_WORK, answer);
+    explain("build", code, answer[0]);
+}
+
+/* The two reasons for a bad number: a rule count that is padded, a kind that runs on; and a sheet whose last target is padded. */
+static void bad_numbers(void)
+{
+    static const uint8_t padded[] = {1, 0x81, 0x80, 0x00, 7, 1, 1};
+    static const uint8_t runs_on[] = {1, 1, 0x87, 0x80, 0x80, 0x00, 1, 1};
+    static const uint8_t sheet[] = {1, 1, 0, 1, 0x80, 0x02, 0x80, 0x00};
+    size_t answer[LUBI_ANSWER];
+    bad_book(padded, sizeof padded);
+    bad_book(runs_on, sizeof runs_on);
+    size_t code = lubi_load(sheet, sizeof sheet, labels, LUBI_STATES, targets, LUBI_TARGETS, answer);
+    explain("load", code, answer[0]);
+}
+
 int main(void)
 {
     size_t answer[LUBI_ANSWER];
@@ -185,6 +224,7 @@ int main(void)
 
     keep(make_largest());
     short_areas();
+    bad_numbers();
 
     /* Rules typed as text: the word `to`, and words of small letters. */
     type_rules("1:to\n2:<lower>+\n", LUBI_BOOK);

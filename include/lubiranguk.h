@@ -3,7 +3,7 @@
 
    ONE SCHEME FOR EVERY CALL. A call returns a code and writes all four numbers of `answer`.
      code 0         the call gave its answer; `answer` holds its numbers as said at the call, and 0 where nothing is said.
-     code 1 to 14   the call refused: the code is the refusal's number in the table of numbered refusals (LUBI_SHORT and so on),
+     code 1 to 15   the call refused: the code is the refusal's number in the table of numbered refusals (LUBI_SHORT and so on),
                     answer[0] is its place, and the rest is 0.
 
    WHAT THE CALLER MUST TEST: nothing, and no wrapper needs to. No call asks that typed rules, a book, a sheet, a table, a count or a place
@@ -47,7 +47,7 @@ enum {
 enum {
     LUBI_GIVEN = 0,
     LUBI_SHORT = 1,
-    LUBI_NUMBER = 2,
+    LUBI_NUMBER = 2, /* a number runs on past three groups; one that is padded with a group of 0 is LUBI_PADDED */
     LUBI_RANGE = 3,
     LUBI_STACK = 4,
     LUBI_TAIL = 5,
@@ -59,7 +59,8 @@ enum {
     LUBI_ROOM = 11,
     LUBI_PAIRS = 12,
     LUBI_INPUT = 13, /* programs only: no call here gives it */
-    LUBI_TYPED = 14
+    LUBI_TYPED = 14,
+    LUBI_PADDED = 15
 };
 
 /* whether there is such a rule */
@@ -82,7 +83,8 @@ size_t lubi_type(const uint8_t *text, size_t text_length, uint8_t *out, size_t o
 
 /* Checks a rule book.
    answer: the number of rules, the number of nodes of all rules together.
-   Refuses what is wrong in the book, at the byte where it is wrong: 1 to 5. */
+   Refuses what is wrong in the book, at the byte where it is wrong: 1 to 5, and LUBI_PADDED. A number that cannot be read is wrong at its
+   first byte. */
 size_t lubi_check_book(const uint8_t *book, size_t book_length, size_t answer[LUBI_ANSWER]);
 
 /* Tells the kind of a rule of a book, rules counting from 0.
@@ -98,7 +100,7 @@ size_t lubi_well_formed(size_t count, const uint8_t *labels, size_t labels_lengt
 /* Builds a rule book's table.
    answer: the number of states. Cells of labels and targets past those states are 0, to the end of the lent areas.
    Refuses LUBI_ROOM first, where labels, targets or the work area is below full size, and then changes none; else what is wrong in the
-   book, at the byte where it is wrong (1 to 5), then LUBI_LONG, LUBI_TOO_MANY_STATES or LUBI_POOL, at the state that was being left,
+   book, at the byte where it is wrong (1 to 5, 15), then LUBI_LONG, LUBI_TOO_MANY_STATES or LUBI_POOL, at the state that was being left,
    and then leaves labels and targets all 0. */
 size_t lubi_build(const uint8_t *book, size_t book_length, uint8_t *labels, size_t labels_length, uint8_t *targets, size_t targets_length,
     uint64_t *work, size_t work_length, size_t answer[LUBI_ANSWER]);
@@ -106,7 +108,7 @@ size_t lubi_build(const uint8_t *book, size_t book_length, uint8_t *labels, size
 /* Reads a sheet into a table.
    answer: the number of states. Cells of labels and targets past those states are 0, to the end of the lent areas.
    Refuses LUBI_ROOM first, where an area is below full size, and then changes neither; else what is wrong in the sheet, at the byte
-   where it is wrong (1, 2, 3, 5, 9), and then leaves both areas all 0. */
+   where it is wrong (1, 2, 3, 5, 9, 15), and then leaves both areas all 0. */
 size_t lubi_load(const uint8_t *sheet, size_t sheet_length, uint8_t *labels, size_t labels_length, uint8_t *targets, size_t targets_length,
     size_t answer[LUBI_ANSWER]);
 
@@ -131,7 +133,7 @@ size_t lubi_cut_from(size_t count, const uint8_t *labels, size_t labels_length, 
    the front of text_area, and the rest of that area is 0; after LUBI_SAME all of it is 0. The label of the table's start counts only if
    some non-empty text leads back to the start, since words are never empty.
    Refuses LUBI_ROOM first, where the text area or the work area is below full size, and then changes neither; else LUBI_LOADED, where
-   the table is not well formed, then what is wrong in the book, at the byte where it is wrong (1 to 5), then LUBI_LONG, LUBI_PAIRS or
+   the table is not well formed, then what is wrong in the book, at the byte where it is wrong (1 to 5, 15), then LUBI_LONG, LUBI_PAIRS or
    LUBI_POOL, at the number of the pair that was being left (0 for the start, and 1 to 512 in the order found), and then leaves the text
    area all 0. */
 size_t lubi_compare(const uint8_t *book, size_t book_length, size_t count, const uint8_t *labels, size_t labels_length,

@@ -1,6 +1,7 @@
-//! Damage to the bytes of a book or a sheet: single bytes, lengths, and whole
-//! numbers replaced, doubled, dropped or written in a forbidden form.
+//! Damage to the bytes of a book or a sheet: single bytes, lengths, and whole numbers
+//! replaced, doubled, dropped or written in a forbidden form, or in too many groups.
 
+use crate::limits::GROUPS;
 use crate::number::{self, Reader};
 use crate::prng::Rng;
 
@@ -21,8 +22,11 @@ const BAD: [&[u8]; 7] = [
     &[0xFF, 0xFF, 0xFF, 0x01],
 ];
 
-/// The beginnings of the numbers in a file, as far as it has the form of numbers.
-fn places(bytes: &[u8]) -> Vec<(usize, usize)> {
+/// The first numbers of a file, among which nearly all its fields are.
+const FIRST: usize = 7;
+
+/// Where the numbers of a file begin and end, as far as it has the form of numbers.
+pub fn places(bytes: &[u8]) -> Vec<(usize, usize)> {
     let mut reader = Reader::new(bytes);
     let mut found = Vec::new();
     let mut at = 0;
@@ -91,6 +95,47 @@ fn damage_number(rng: &mut Rng, bytes: &mut Vec<u8>) {
         let length = bytes.len().min(from + rng.within(0, 4));
         bytes.truncate(length);
     }
+}
+
+/// Writes one number in too many groups: padded, or going on where it should end. More
+/// often than not it is one of the first and has the value that it had.
+pub fn lengthen(rng: &mut Rng, bytes: &mut Vec<u8>) {
+    let found = places(bytes);
+    if found.is_empty() {
+        return;
+    }
+    // Letters come behind a code 6, and few books have one.
+    let behind = |six: &&[(usize, usize)]| bytes[six[0].0] == 6;
+    let letters: Vec<_> = found.windows(2).filter(behind).map(|six| six[1]).collect();
+    let (from, to) = *match rng.below(10) {
+        0..=5 => rng.pick(&found[..found.len().min(FIRST)]),
+        6 if !letters.is_empty() => rng.pick(&letters),
+        _ => rng.pick(&found),
+    };
+    let own = Reader::new(&bytes[from..to]).any().expect("it was read before");
+    let value = if rng.chance(70) { own } else { *rng.pick(&EDGES) };
+    // The last of three groups is spare in numbers of fourteen bits only.
+    let value = value % (1 << 14);
+    let new = match rng.chance(60) {
+        true => in_groups(value, rng.within(written(value).len() + 1, GROUPS)),
+        false => going_on(value),
+    };
+    bytes.splice(from..to, new);
+}
+
+/// The value in just so many groups, whether it needs them or not.
+pub fn in_groups(value: usize, groups: usize) -> Vec<u8> {
+    let group = |i: usize| (value >> (7 * i) & 0x7F) as u8;
+    let mut bytes: Vec<u8> = (0..groups).map(|i| 0x80 | group(i)).collect();
+    bytes[groups - 1] &= 0x7F;
+    bytes
+}
+
+/// The value in as many groups as there may be, the last of which asks for one more.
+pub fn going_on(value: usize) -> Vec<u8> {
+    let mut bytes = in_groups(value, GROUPS);
+    bytes[GROUPS - 1] |= 0x80;
+    bytes
 }
 
 fn written(value: usize) -> Vec<u8> {

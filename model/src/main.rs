@@ -16,6 +16,8 @@ mod edges;
 mod faults;
 mod limits;
 mod number;
+mod numberchecks;
+mod padded;
 mod printed;
 mod prng;
 mod programs;

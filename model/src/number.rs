@@ -20,24 +20,31 @@ impl<'a> Reader<'a> {
         self.at
     }
 
-    /// Reads one number of any value; every fault has the number's first byte as its place.
-    pub fn any(&mut self) -> Result<usize, Refusal> {
-        let first = self.at;
-        let mut value = 0;
-        for group in 0..GROUPS {
-            let Some(&byte) = self.bytes.get(first + group) else {
-                return refuse(Fault::Short, first);
+    /// Reads one number of any value, and tells how many groups it read, also where it
+    /// refuses; every fault has the number's first byte as its place.
+    pub fn grouped(&mut self) -> (Result<usize, Refusal>, usize) {
+        let (first, mut value) = (self.at, 0);
+        for before in 0..GROUPS {
+            let Some(&byte) = self.bytes.get(first + before) else {
+                return (refuse(Fault::Short, first), before);
             };
-            value += usize::from(byte & 0x7F) << (7 * group);
-            if byte < 0x80 {
-                if group > 0 && byte == 0 {
-                    return refuse(Fault::Number, first);
-                }
-                self.at = first + group + 1;
-                return Ok(value);
+            value += usize::from(byte & 0x7F) << (7 * before);
+            let groups = before + 1;
+            if byte >= 0x80 {
+                continue;
             }
+            if byte == 0 && groups > 1 {
+                return (refuse(Fault::Padded, first), groups);
+            }
+            self.at = first + groups;
+            return (Ok(value), groups);
         }
-        refuse(Fault::Number, first)
+        (refuse(Fault::Number, first), GROUPS)
+    }
+
+    /// Reads one number of any value.
+    pub fn any(&mut self) -> Result<usize, Refusal> {
+        self.grouped().0
     }
 
     /// Reads one number that has to be from `low` to `high`.

@@ -54,7 +54,8 @@ impl Printed {
     }
 }
 
-fn kind(line: &str) -> String {
+/// The kind of the answer that a line gives.
+pub fn kind(line: &str) -> String {
     let mut parts = line.split_whitespace();
     match (parts.next(), parts.next()) {
         (None, _) => "no table".to_string(),

@@ -2,7 +2,7 @@
 //! The numbers are the ones that the programs print.
 
 /// The ways to refuse, each with its number.
-#[derive(Clone, Copy, Debug, PartialEq, Eq, PartialOrd, Ord)]
+#[derive(Clone, Copy, Debug, PartialEq, Eq)]
 pub enum Fault {
     Short = 1,
     Number = 2,
@@ -18,6 +18,7 @@ pub enum Fault {
     Pairs = 12,
     Input = 13,
     Typed = 14,
+    Padded = 15,
 }
 
 /// A fault and its place: a byte offset, or a state, or a pair.

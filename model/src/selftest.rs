@@ -1,6 +1,6 @@
-//! The model's test of itself, first part: numbers, books and the sample book with its
-//! worked lines; then come `sheetchecks`, `capchecks`, `crosschecks`, `comparisons` and
-//! `typed_checks`.
+//! The model's test of itself, first part: books and the sample book with its worked
+//! lines, behind `numberchecks`; then come `sheetchecks`, `capchecks`, `crosschecks`,
+//! `comparisons` and `typed_checks`.
 
 use crate::book;
 use crate::brute;
@@ -11,7 +11,8 @@ use crate::cut::{cut, first_word, End, Word};
 use crate::damage::damage;
 use crate::faults;
 use crate::limits::NODES;
-use crate::number::{self, Reader};
+use crate::numberchecks;
+use crate::padded;
 use crate::prng::Rng;
 use crate::programs;
 use crate::raised_sheets::BEGINNINGS;
@@ -52,7 +53,7 @@ impl Checks {
 /// Runs every check; answers whether none failed.
 pub fn run() -> bool {
     let mut checks = Checks::default();
-    numbers(&mut checks);
+    numberchecks::run(&mut checks);
     books(&mut checks);
     faulty(&mut checks);
     sample(&mut checks);
@@ -71,53 +72,9 @@ pub fn run_typed() -> bool {
     checks.end()
 }
 
-/// A number by trying its shortest form: where it ends is where the first low byte is.
-fn number_again(bytes: &[u8]) -> Result<(usize, usize), Fault> {
-    let Some(last) = bytes.iter().take(3).position(|&byte| byte < 0x80) else {
-        return Err(if bytes.len() < 3 { Fault::Short } else { Fault::Number });
-    };
-    let groups = bytes[..=last].iter().rev();
-    let value = groups.fold(0, |value, &byte| value * 128 + usize::from(byte % 128));
-    let mut shortest = Vec::new();
-    number::write(value, &mut shortest);
-    if shortest != bytes[..=last] {
-        return Err(Fault::Number);
-    }
-    Ok((value, last + 1))
-}
-
-fn numbers(checks: &mut Checks) {
-    for value in 0..1 << 21 {
-        let mut bytes = vec![];
-        number::write(value, &mut bytes);
-        let length = 1 + usize::from(value >= 1 << 7) + usize::from(value >= 1 << 14);
-        let right = bytes.len() == length && Reader::new(&bytes).any() == Ok(value);
-        if value % 4096 == 0 || !right {
-            checks.check(&format!("number {value}"), right);
-        }
-    }
-    for (value, bytes) in [(128, [0x80, 0x01]), (300, [0xAC, 0x02]), (16_383, [0xFF, 0x7F])] {
-        let mut written = vec![];
-        number::write(value, &mut written);
-        checks.check("a worked number", written == bytes);
-    }
-    let ends = [0x00, 0x01, 0x7F, 0x80, 0x81, 0xFF];
-    for first in 0..=255u8 {
-        for second in 0..=255u8 {
-            let mut right = true;
-            for third in ends {
-                for length in 0..=3 {
-                    let bytes = &[first, second, third][..length];
-                    let mut reader = Reader::new(bytes);
-                    let read = reader.any().map(|value| (value, reader.at()));
-                    let place = read.map_err(|refusal| refusal.place).err().unwrap_or(0);
-                    right &= place == 0 && read.map_err(|r| r.fault) == number_again(bytes);
-                }
-            }
-            checks.check(&format!("numbers that begin {first} {second}"), right);
-        }
-    }
-}
+/// The refusals that reading a book has.
+const OF_BOOKS: [Fault; 6] =
+    [Fault::Short, Fault::Number, Fault::Padded, Fault::Range, Fault::Stack, Fault::Tail];
 
 fn books(checks: &mut Checks) {
     for seed in 0..600 {
@@ -146,7 +103,7 @@ fn books(checks: &mut Checks) {
             damage(&mut rng, &mut spoilt);
             let right = match book::read(&spoilt) {
                 Ok(book) => book.write() == spoilt,
-                Err(refusal) => refusal.place <= spoilt.len() && refusal.fault <= Fault::Tail,
+                Err(refusal) => refusal.place <= spoilt.len() && OF_BOOKS.contains(&refusal.fault),
             };
             checks.check("a damaged book is refused or written alike", right);
         }
@@ -156,11 +113,11 @@ fn books(checks: &mut Checks) {
 /// The files written by hand; fault 0 is none.
 fn faulty(checks: &mut Checks) {
     let found = |refusal: Option<Refusal>| refusal.map_or((0, 0), |r| (r.fault as u8, r.place));
-    for (bytes, fault, place) in faults::BOOKS {
+    for (bytes, fault, place) in faults::BOOKS.iter().chain(padded::BOOKS) {
         let read = found(book::read(bytes).err());
         checks.check(&format!("book {bytes:02X?}: {read:?}"), read == (*fault, *place));
     }
-    for (bytes, fault, place) in faults::SHEETS.iter().chain(BEGINNINGS) {
+    for (bytes, fault, place) in faults::SHEETS.iter().chain(BEGINNINGS).chain(padded::SHEETS) {
         let read = found(sheet::read(bytes).err());
         checks.check(&format!("sheet {bytes:02X?}: {read:?}"), read == (*fault, *place));
     }

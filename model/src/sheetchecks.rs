@@ -10,6 +10,10 @@ use crate::selftest::Checks;
 use crate::sheet::{self, Table};
 use crate::sheets;
 
+/// The refusals that reading a sheet has.
+const OF_SHEETS: [Fault; 6] =
+    [Fault::Short, Fault::Number, Fault::Padded, Fault::Range, Fault::Runs, Fault::Tail];
+
 pub fn run(checks: &mut Checks) {
     for count in [0, STATES + 1] {
         let lent = sheet::lent(count, &vec![0; count], &vec![0; BYTES * count]);
@@ -61,7 +65,7 @@ fn sheets_read(checks: &mut Checks, rng: &mut Rng, table: &Table) {
         damage(rng, &mut spoilt);
         let right = match sheet::read(&spoilt) {
             Ok(table) => sheet::write(&table) == spoilt,
-            Err(refusal) => refusal.place <= spoilt.len(),
+            Err(refusal) => refusal.place <= spoilt.len() && OF_SHEETS.contains(&refusal.fault),
         };
         checks.check("a damaged sheet is refused or written alike", right);
     }

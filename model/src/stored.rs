@@ -6,11 +6,12 @@ use crate::build::build;
 use crate::cases::{random_case, Case};
 use crate::damage::damage;
 use crate::limits::{CAPS, OLDER};
-use crate::printed::Printed;
+use crate::padded::{padded_book_cases, padded_sheet_cases, twice_padded_cases};
+use crate::printed::{kind, Printed};
 use crate::prng::Rng;
 use crate::raised_sheets::{beginning_cases, raised_sheet_cases};
 use crate::random::{joined_text, scanner_book, small_book};
-use crate::refusal::{Fault, Refusal};
+use crate::refusal::Refusal;
 use crate::sheet;
 use crate::sheets::{shuffled, with_spare};
 use crate::worked::{
@@ -73,19 +74,32 @@ fn groups() -> Vec<Group> {
         group("sheets of more than 128 states, and long ones", true, raised_sheet_cases()),
         group("random cases past the older caps", false, raised_random_cases()),
         group("the longest sheet of 128 states", true, older_longest_cases()),
+        group("books by hand, a number padded, going on or short", false, padded_book_cases()),
+        group("sheets by hand, a number padded, going on or short", false, padded_sheet_cases()),
+        group("a book and a sheet with such numbers", false, twice_padded_cases()),
     ]
 }
 
-/// Counts refusals by their numbers, until each has come at enough places.
+/// The kind of an answer by which a case is chosen. A padded number was refused by Number
+/// when the cases were chosen, and counts as that still, so that they keep their files.
+fn chosen_by(kind: String) -> String {
+    if kind == "refused 15" {
+        "refused  2".to_string()
+    } else {
+        kind
+    }
+}
+
+/// Counts refusals by their kinds, until each has come at enough places.
 #[derive(Default)]
 struct Places {
-    seen: BTreeMap<Fault, Vec<usize>>,
+    seen: BTreeMap<String, Vec<usize>>,
 }
 
 impl Places {
     /// Whether a refusal comes at a new place and is still wanted.
     fn wants(&mut self, refusal: Refusal) -> bool {
-        let places = self.seen.entry(refusal.fault).or_default();
+        let places = self.seen.entry(chosen_by(kind(&refusal.line()))).or_default();
         let new = places.len() < EACH && !places.contains(&refusal.place);
         if new {
             places.push(refusal.place);
@@ -93,7 +107,7 @@ impl Places {
         new
     }
 
-    /// Whether the five refusals that a file can have are all there.
+    /// Whether the six refusals that a file can have are all there, two of them as one.
     fn full(&self) -> bool {
         self.seen.values().filter(|places| places.len() == EACH).count() == 5
     }
@@ -146,7 +160,8 @@ fn random_cases() -> Vec<Case> {
     for number in 1..=TRIED {
         let case = random_case(&mut Rng::part(SEED, number));
         let Some(whole) = whole_files(&case, SMALL) else { continue };
-        let count = alike.entry(Printed::of(&case, CAPS).kinds()).or_default();
+        let kinds = Printed::of(&case, CAPS).kinds().into_iter().map(chosen_by).collect();
+        let count = alike.entry(kinds).or_default();
         *count += 1;
         if whole || *count == 1 {
             found.push((*count, case));

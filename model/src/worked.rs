@@ -5,8 +5,9 @@ use crate::book::{self, one, Book};
 use crate::build::{alike, build, build_by};
 use crate::cases::{Case, File};
 use crate::edges::{all, meetings, Edge, Meeting};
-use crate::faults;
+use crate::faults::{self, Faulty};
 use crate::limits::{Caps, BOOK_FILE, BYTES, CAPS, OLDER, TEXT_FILE};
+use crate::padded::{padded_book_cases, padded_sheet_cases, twice_padded_cases};
 use crate::prng::Rng;
 use crate::raised_builds::raised_edges;
 use crate::raised_meetings::{raised_meetings, slowest};
@@ -62,6 +63,9 @@ pub fn fixed(rng: &mut Rng) -> Vec<Case> {
         raised_meeting_cases(rng),
         beginning_cases(),
         raised_sheet_cases(),
+        padded_book_cases(),
+        padded_sheet_cases(),
+        twice_padded_cases(),
     ]
     .concat()
 }
@@ -112,15 +116,23 @@ fn met(rng: &mut Rng, meeting: &Meeting) -> Case {
 
 /// The books written by hand.
 pub fn book_fault_cases() -> Vec<Case> {
-    let own = sheet::write(&sample_table());
-    let faulty = |bytes: &[u8]| case("book with a fault", bytes, TEXT, &own);
-    faults::BOOKS.iter().map(|(bytes, _, _)| faulty(bytes)).collect()
+    faulty_books("book with a fault", faults::BOOKS)
 }
 
 /// The sheets written by hand.
 pub fn sheet_fault_cases() -> Vec<Case> {
-    let faulty = |bytes: &[u8]| case("sheet with a fault", &SAMPLE, TEXT, bytes);
-    faults::SHEETS.iter().map(|(bytes, _, _)| faulty(bytes)).collect()
+    faulty_sheets("sheet with a fault", faults::SHEETS)
+}
+
+/// Books against the sample's own sheet.
+pub fn faulty_books(name: &str, books: &[Faulty]) -> Vec<Case> {
+    let own = sheet::write(&sample_table());
+    books.iter().map(|(bytes, _, _)| case(name, bytes, TEXT, &own)).collect()
+}
+
+/// Sheets against the sample book.
+pub fn faulty_sheets(name: &str, sheets: &[Faulty]) -> Vec<Case> {
+    sheets.iter().map(|(bytes, _, _)| case(name, &SAMPLE, TEXT, bytes)).collect()
 }
 
 /// Sheets with as many states as an older reader takes, and one more.

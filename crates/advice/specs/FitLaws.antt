@@ -9,7 +9,7 @@ use lib.Dec.{eqb, ltb}
 use lib.ListN.{length}
 use borrow.Author.Tests.{ltb-false}
 use Rattle.number.specs.declared.Refusal.{Refusal}
-use Rattle.number.specs.declared.Refusal.the-variants.{Short, Number, Range, Stack, Tail, Long, Pool, States, Runs, Loaded, Room, Pairs, Input, Typed}
+use Rattle.number.specs.declared.Refusal.the-variants.{Short, Number, Range, Stack, Tail, Long, Pool, States, Runs, Loaded, Room, Pairs, Input, Typed, Padded}
 use Rattle.number.specs.Branch.{by-cond}
 use Rattle.number.specs.Limits.{rulesFile}
 use Rattle.number.specs.Lists.{Writes}
@@ -36,6 +36,7 @@ read-room text (Range p) h =
 read-room text Input h = none-fits
 read-room text (Short p) h = none-fits
 read-room text (Number p) h = none-fits
+read-room text (Padded p) h = none-fits
 read-room text (Stack p) h = none-fits
 read-room text (Tail p) h = none-fits
 read-room text (Long p) h = none-fits

@@ -6,7 +6,7 @@ use mathlib.Core.List.{List, [], _∷_, _++_}
 use lib.Dec.{eqb, ltb}
 use lib.ListN.{length, take, drop, replicate}
 use Rattle.number.specs.declared.Refusal.{Refusal}
-use Rattle.number.specs.declared.Refusal.the-variants.{Short, Number, Range, Stack, Tail, Long, Pool, States, Runs, Loaded, Room, Pairs, Input, Typed}
+use Rattle.number.specs.declared.Refusal.the-variants.{Short, Number, Range, Stack, Tail, Long, Pool, States, Runs, Loaded, Room, Pairs, Input, Typed, Padded}
 use Rattle.number.specs.Limits.{rules, kinds, nodes, bytes, rulesFile}
 use Rattle.number.specs.Refused.{Outcome, number, place}
 use Rattle.number.specs.Refused.Outcome.{gives, refuses}
@@ -174,6 +174,7 @@ adviceOn text (Range p) = cond (eqb (length text) 0) noRule (cond (ltb (length t
 adviceOn text Input = []
 adviceOn text (Short p) = []
 adviceOn text (Number p) = []
+adviceOn text (Padded p) = []
 adviceOn text (Stack p) = []
 adviceOn text (Tail p) = []
 adviceOn text (Long p) = []

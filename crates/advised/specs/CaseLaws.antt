@@ -7,7 +7,7 @@ use mathlib.Core.List.{List, [], _∷_, map}
 use lib.ListN.{length, replicate}
 use borrow.Author.Tests.{eq-eqb, ne-eqb, lt-ltb, le-ltb}
 use Rattle.number.specs.declared.Refusal.{Refusal}
-use Rattle.number.specs.declared.Refusal.the-variants.{Short, Number, Range, Stack, Tail, Long, Pool, States, Runs, Loaded, Room, Pairs, Input, Typed}
+use Rattle.number.specs.declared.Refusal.the-variants.{Short, Number, Range, Stack, Tail, Long, Pool, States, Runs, Loaded, Room, Pairs, Input, Typed, Padded}
 use Rattle.number.specs.Limits.{rulesFile}
 use Rattle.meaning.specs.Re.{Text}
 use Rattle.number.specs.Quoted.{quoted}
@@ -43,7 +43,7 @@ read-told text r h = sym (rw (le-ltb rulesFile (length text) h) refl)
 
 -- what is told nothing of
 pub untold : (text : Text) (p : ℕ) → 0 < length text → length text ≤ rulesFile
-    → (map (adviceOf text) (Short p ∷ Number p ∷ Stack p ∷ Tail p ∷ Long p ∷ Pool p ∷ States p ∷ Runs p ∷ Loaded ∷ Room ∷ Pairs p ∷ Input ∷ []) ≡ replicate 12 [])
+    → (map (adviceOf text) (Short p ∷ Number p ∷ Stack p ∷ Tail p ∷ Long p ∷ Pool p ∷ States p ∷ Runs p ∷ Loaded ∷ Room ∷ Pairs p ∷ Input ∷ Padded p ∷ []) ≡ replicate 13 [])
     × (length text < p → map (adviceOf text) (Typed p ∷ Range p ∷ []) ≡ replicate 2 [])
 unfolding adviceOf adviceOn
 untold text p some fits =

@@ -7,7 +7,7 @@ use mathlib.Core.List.{[], _∷_, _++_, map}
 use mathlib.Core.Logic.{_↔_}
 use lib.ListN.{length, take, replicate}
 use Rattle.number.specs.declared.Refusal.{Refusal}
-use Rattle.number.specs.declared.Refusal.the-variants.{Short, Number, Range, Stack, Tail, Long, Pool, States, Runs, Loaded, Room, Pairs, Input, Typed}
+use Rattle.number.specs.declared.Refusal.the-variants.{Short, Number, Range, Stack, Tail, Long, Pool, States, Runs, Loaded, Room, Pairs, Input, Typed, Padded}
 use Rattle.number.specs.Limits.{rulesFile}
 use Rattle.number.specs.Refused.Outcome.{refuses}
 use Rattle.meaning.specs.Re.{Text}
@@ -55,7 +55,7 @@ the-unsaved-book = refl
 
 -- of refusals that typing never answers nothing is told, nor of a place outside the text
 pub the-silence : (text : Text) (p : ℕ) → 0 < length text → length text ≤ rulesFile
-    → (map (adviceOf text) (Short p ∷ Number p ∷ Stack p ∷ Tail p ∷ Long p ∷ Pool p ∷ States p ∷ Runs p ∷ Loaded ∷ Room ∷ Pairs p ∷ Input ∷ []) ≡ replicate 12 [])
+    → (map (adviceOf text) (Short p ∷ Number p ∷ Stack p ∷ Tail p ∷ Long p ∷ Pool p ∷ States p ∷ Runs p ∷ Loaded ∷ Room ∷ Pairs p ∷ Input ∷ Padded p ∷ []) ≡ replicate 13 [])
     × (length text < p → map (adviceOf text) (Typed p ∷ Range p ∷ []) ≡ replicate 2 [])
 the-silence = untold
 

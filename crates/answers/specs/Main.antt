@@ -5,7 +5,9 @@ use mathlib.Core.Path.{_≡_}
 use mathlib.Core.Bool.{Bool}
 use mathlib.Core.List.{List}
 use Rattle.number.specs.declared.Taken.{Taken}
-use Rattle.number.specs.Numbers.{taken, readNumber, field}
+use Rattle.number.specs.declared.Grouped.{Grouped}
+use Rattle.number.specs.Refused.{Answer}
+use Rattle.number.specs.Numbers.{taken, readNumber, groupsRead, field}
 use Rattle.number.specs.Promises.{ReadsNumber, ReadsField}
 use Rattle.meaning.specs.Re.{Text}
 use Rattle.book.specs.declared.Checked.{Checked}
@@ -30,8 +32,9 @@ use Rattle.comparing.specs.Promises.{Compares}
 use Rattle.typed.specs.Calls.{typeOf}
 use Rattle.typing.specs.Promises.{Types}
 
-pub the-number-promise : (s : List ℕ) (at : ℕ) (r : Taken) → ReadsNumber s at r → taken r ≡ readNumber s at
-the-number-promise s at r p = p .answer
+pub the-number-promise : (s : List ℕ) (at : ℕ) (r : Grouped) → ReadsNumber s at r
+    → _≡_ {A = Answer ℕ × ℕ} (taken (r .taken), r .groups) (readNumber s at, groupsRead s at)
+the-number-promise s at r p = λ i. (p .answer i, p .groups i)
 
 pub the-field-promise : (s : List ℕ) (lo hi at : ℕ) (r : Taken) → ReadsField s lo hi at r → taken r ≡ field s lo hi at
 the-field-promise s lo hi at r p = p .answer

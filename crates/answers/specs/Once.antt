@@ -6,6 +6,7 @@ use mathlib.Core.Bool.{Bool}
 use mathlib.Core.List.{List}
 use Rattle.number.specs.declared.Refusal.{Refusal}
 use Rattle.number.specs.declared.Taken.{Taken}
+use Rattle.number.specs.declared.Grouped.{Grouped}
 use Rattle.number.specs.Refused.{number, place}
 use Rattle.number.specs.Promises.{ReadsNumber, ReadsField}
 use Rattle.meaning.specs.Re.{Text}
@@ -30,8 +31,11 @@ one-refusal-number r x y p q = p ∙ sym q
 pub one-refusal-place : (r : Refusal) (x y : ℕ) → x ≡ place r → y ≡ place r → x ≡ y
 one-refusal-place r x y p q = p ∙ sym q
 
-pub one-number : (s : List ℕ) (at : ℕ) (x y : Taken) → ReadsNumber s at x → ReadsNumber s at y → x ≡ y
-one-number s at x y p q = taken-one x y (p .answer ∙ sym (q .answer))
+pub one-number : (s : List ℕ) (at : ℕ) (x y : Grouped) → ReadsNumber s at x → ReadsNumber s at y → x ≡ y
+one-number s at x y p q =
+    let same = taken-one (x .taken) (y .taken) (p .answer ∙ sym (q .answer)) in
+    let groups = p .groups ∙ sym (q .groups) in
+    λ i. record { taken = same i; groups = groups i }
 
 pub one-field : (s : List ℕ) (lo hi at : ℕ) (x y : Taken) → ReadsField s lo hi at x → ReadsField s lo hi at y → x ≡ y
 one-field s lo hi at x y p q = taken-one x y (p .answer ∙ sym (q .answer))

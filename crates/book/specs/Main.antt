@@ -55,16 +55,16 @@ the-books = book-exact
 pub one-book : (b c : Book) → ValidBook b → ValidBook c → writeBook b ≡ writeBook c → b ≡ c
 one-book = book-one
 
--- a refusal is one of Short, Number, Range, Stack and Tail, its place is in the file or at its end, and no valid book is refused
+-- a refusal is one of Short, Number, Range, Stack, Tail and Padded, its place is in the file or at its end, and no valid book is refused
 pub record Refuses (file : List ℕ) (r : Refusal) : Type 0 where
-  pub one-of-five : (1 ≤ number r) × (number r ≤ 5)
+  pub one-of-six : ((1 ≤ number r) × (number r ≤ 5)) ⊎ (number r ≡ 15)
   pub near : place r ≤ length file
   pub rightly : (b : Book) → ValidBook b → writeBook b ≡ file → ⊥
 
 pub the-refusals : (file : List ℕ) (r : Refusal) → readBook file ≡ refused r → Refuses file r
 the-refusals file r e =
     let f = book-refused file r e in
-    record { one-of-five = (f .some, f .few); near = f .near; rightly = λ b. book-none file r b e }
+    record { one-of-six = f .row; near = f .near; rightly = λ b. book-none file r b e }
 
 -- the nodes of a valid rule leave its expression and nothing else, and as a tree it has at most twice as many nodes, and one
 pub the-expression : (r : Rule) → ValidRule r → (runNodes (r .nodes) [] ≡ expression r ∷ []) × (size (expression r) ≤ 2 * length (r .nodes) + 1)

@@ -87,7 +87,7 @@ book-valid file b after e =
 pub book-none : (file : List ℕ) (r : Refusal) (b : Book) → readBook file ≡ refused r → ValidBook b → writeBook b ≡ file → ⊥
 book-none file r b e valid same = clash (sym e ∙ sym (ap readBook same) ∙ book-written b valid)
 
--- a refusal is one of the first five, and its place is within the file or at its end
+-- a refusal is one of the first five or Padded, and its place is within the file or at its end
 pub book-refused : (file : List ℕ) (r : Refusal) → readBook file ≡ refused r → Fault file r
 book-refused file r e = subst (ByAnswer (ReadsBook file) (Fault file)) e (book-holds file)
 

@@ -4,6 +4,7 @@ use Prim.Native.Nat.{ℕ, zero, suc, _+_, _-_, _≤_}
 use native.Mathlib.Omega.{arith}
 use mathlib.Core.Path.{_≡_, refl, ap}
 use mathlib.Core.Bool.{Bool, true, false, not}
+use mathlib.Core.Logic.{inl}
 use mathlib.Core.List.{List, [], _++_}
 use borrow.Author.Tests.{ltb-false, eqb-true}
 use lib.Dec.{ltb, eqb}
@@ -79,12 +80,12 @@ module _ (file : List ℕ) where
   unfolding readNodes writeNodes
   nodes-holds v zero terms at h =
       past-test (ReadsNodes file 0 terms at) (Fault file) (not (eqb terms 1)) (Stack at) at (answer [])
-      (record { some = omega arith; few = omega arith; near = h })
+      (record { row = inl (omega arith, omega arith); near = h })
       λ e. record { many = refl; leaves = one-left terms e; read = read-none file at h }
   nodes-holds v (suc k) terms at h =
       on (ReadsNode file at) (ReadsNodes file (suc k) terms at) (Fault file) (readNode file v at) _ (node-holds v at h) λ n mid f.
       past-test (ReadsNodes file (suc k) terms at) (Fault file) (ltb terms (takes n)) (Stack at) mid _
-      (record { some = omega arith; few = omega arith; near = h })
+      (record { row = inl (omega arith, omega arith); near = h })
       λ e.
       on (ReadsNodes file k (terms - takes n + 1) mid) (ReadsNodes file (suc k) terms at) (Fault file) (readNodes file v k (terms - takes n + 1) mid) _
       (nodes-holds v k (terms - takes n + 1) mid (f .read .inside)) λ ns next g.
@@ -102,7 +103,7 @@ module _ (file : List ℕ) where
       on-field (ReadsRules file (suc k) used at) file 0 kinds at _ h λ kind there f.
       on-field (ReadsRules file (suc k) used at) file 1 nodes there _ (f .read .inside) λ m mid c.
       past-test (ReadsRules file (suc k) used at) (Fault file) (ltb nodes (used + m)) (OutOfRange there) mid _
-      (record { some = omega arith; few = omega arith; near = f .read .inside })
+      (record { row = inl (omega arith, omega arith); near = f .read .inside })
       λ e.
       on (ReadsNodes file m 0 mid) (ReadsRules file (suc k) used at) (Fault file) (readNodes file v m 0 mid) _
       (nodes-holds v m 0 mid (c .read .inside)) λ ns end g.
@@ -128,7 +129,7 @@ module _ (file : List ℕ) where
       on (ReadsRules file n 0 mid) (ReadsBook file) (Fault file) (readRules file v n 0 mid) _
       (rules-holds v n 0 mid (omega arith) (c .read .inside)) λ rs next g.
       past-test (ReadsBook file) (Fault file) (ltb next (length file)) (Tail next) next _
-      (record { some = omega arith; few = omega arith; near = g .read .inside })
+      (record { row = inl (omega arith, omega arith); near = g .read .inside })
       λ e.
       let many : length rs ≡ n = g .many in
       record {

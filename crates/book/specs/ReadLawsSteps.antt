@@ -9,15 +9,16 @@ use mathlib.Core.List.{List, [], _++_, append-assoc}
 use lib.Dec.{eqb}
 use lib.ListN.{length, drop, length-append}
 use Rattle.number.specs.declared.Refusal.{Refusal}
-use Rattle.number.specs.declared.Refusal.the-variants.{Short, Number, Range}
 use Rattle.number.specs.Refused.{Answer, number, place}
 use Rattle.number.specs.Refused.Answer.{got, refused}
 use Rattle.number.specs.Numbers.{Bytes, several, readNumber, writeNumber, field}
 use Rattle.number.specs.Reading.{Reader, onward}
 use Rattle.number.specs.Branch.{by-cond}
 use Rattle.number.specs.Lists.{drop-past}
-use Rattle.number.specs.NumberLaws.{Way, read-way, written-read, field-read, field-refusal}
+use Rattle.number.specs.NumberLaws.{Way, read-way, written-read, field-read}
 use Rattle.number.specs.NumberLaws.Way.{none, one, half, two, most, three, over}
+use Rattle.number.specs.FaultLaws.{OfNumber, field-refusal}
+use Rattle.number.specs.FaultLaws.OfNumber.{short, runs-on, padded, outside}
 
 -- a refusal is not something got
 pub clash : {A : Type 0} {r : Refusal} {x : A} {next : ℕ} → _≡_ {A = Answer A} (refused r) (got x next) → ⊥
@@ -86,10 +87,9 @@ past-both at v w = omega (arith, length-append v w)
 
 -- ---- a field
 
--- a refusal of a file: one of the first five, at a place within the file or at its end
+-- a refusal of a file: one of the first five or Padded, at a place within the file or at its end
 pub record Fault (file : List ℕ) (r : Refusal) : Type 0 where
-  pub some : 1 ≤ number r
-  pub few : number r ≤ 5
+  pub row : ((1 ≤ number r) × (number r ≤ 5)) ⊎ (number r ≡ 15)
   pub near : place r ≤ length file
 
 -- what a field tells
@@ -106,7 +106,7 @@ several-inside at last m k n next =
 number-inside : (s : List ℕ) (at n next : ℕ) → readNumber s at ≡ got n next → next ≤ length s
 number-inside s at n next = go (read-way s at)
   where
-    go : {x : Answer ℕ} → Way s at x → x ≡ got n next → next ≤ length s
+    go : {x : Answer ℕ} {g : ℕ} → Way s at x g → x ≡ got n next → next ≤ length s
     go (none h) e = absurd (clash e)
     go (one a h f k) e = let place : next ≡ at + 1 = cc in omega arith
     go (half a h f k h1) e = absurd (clash e)
@@ -119,17 +119,18 @@ pub field-holds : (file : List ℕ) (lo hi at : ℕ) → at ≤ length file
     → ByAnswer (λ n next. Field file lo hi at n next) (Fault file) (field file lo hi at)
 field-holds file lo hi at h = go (field file lo hi at) refl
   where
-    fault : (r : Refusal) → (r ≡ Short at) ⊎ ((r ≡ Number at) ⊎ (r ≡ Range at)) → Fault file r
-    fault r (inl e) = rw e (record { some = omega arith; few = omega arith; near = h })
-    fault r (inr (inl e)) = rw e (record { some = omega arith; few = omega arith; near = h })
-    fault r (inr (inr e)) = rw e (record { some = omega arith; few = omega arith; near = h })
+    fault : {r : Refusal} → OfNumber at r → Fault file r
+    fault short = record { row = inl (omega arith, omega arith); near = h }
+    fault runs-on = record { row = inl (omega arith, omega arith); near = h }
+    fault padded = record { row = inr refl; near = h }
+    fault outside = record { row = inl (omega arith, omega arith); near = h }
 
     stands : (n next : ℕ) → readNumber file at ≡ got n next → Bytes file → Stands file at (writeNumber n) next
     stands n next e all =
         let w = written-read file at n next all e in record { stands = w .stands; after = w .after; inside = w .inside }
 
     go : (x : Answer ℕ) → field file lo hi at ≡ x → ByAnswer (λ n next. Field file lo hi at n next) (Fault file) x
-    go (refused r) e = fault r (field-refusal file lo hi at r e)
+    go (refused r) e = fault (field-refusal file lo hi at r e)
     go (got n next) e =
         let f = field-read file lo hi at n next e in
         record { low = f .low; high = f .high; read = record { inside = number-inside file at n next (f .read); stands = stands n next (f .read) } }

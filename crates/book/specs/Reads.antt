@@ -1,4 +1,4 @@
--- How a rule book is read: every refusal of document 01 at its place, in the order in which the bytes come.
+-- How a rule book is read: every refusal of documents 01 and 02 at its place, in the order in which the bytes come.
 -- Reading goes down the counts that the book gives, so it ends.
 use Prim.Native.Nat.{ℕ, zero, suc, _+_, _-_}
 use mathlib.Core.Bool.{not}

@@ -3,7 +3,7 @@
 use Prim.Native.Nat.{ℕ}
 use Prim.Native.String.{String}
 use mathlib.Core.List.{List, [], _∷_}
-use Rattle.number.specs.declared.Refusal.the-variants.{Short, Number, Range, Stack, Tail, Long, Pool, States, Runs, Loaded, Room, Pairs, Input, Typed}
+use Rattle.number.specs.declared.Refusal.the-variants.{Short, Number, Range, Stack, Tail, Long, Pool, States, Runs, Loaded, Room, Pairs, Input, Typed, Padded}
 use Rattle.number.specs.Quoted.{quoted}
 use Rattle.lines.specs.Lines.{wordLine, doneLine, stuckLine, refusedLine, sameLine, differsLine, hexLine}
 
@@ -47,6 +47,7 @@ lines =
     prints (refusedLine (Pairs 511)) "refused 12 511\n" ∷
     prints (refusedLine Input) "refused 13 0\n" ∷
     prints (refusedLine (Typed 32768)) "refused 14 32768\n" ∷
+    prints (refusedLine (Padded 4095)) "refused 15 4095\n" ∷
     -- comparisons
     prints sameLine "same\n" ∷
     prints (differsLine 2 1 2) "differs 2 1 2\n" ∷

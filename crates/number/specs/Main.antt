@@ -2,12 +2,12 @@
 -- To believe them, read Limits, Refused, Rows, Numbers, Faults, Reading, Lists and Sample. Each proof names its law, which stands in the file of that matter.
 use Prim.Native.Nat.{ℕ, _+_, _<_, _≤_}
 use native.Mathlib.Omega.{arith}
-use mathlib.Core.Path.{_≡_, refl}
+use mathlib.Core.Path.{_≡_, refl, subst}
 use mathlib.Core.Logic.{_↔_}
 use mathlib.Core.List.{List, [], _∷_, _++_, map}
 use lib.ListN.{length, take, drop}
 use Rattle.number.specs.declared.Refusal.{Refusal}
-use Rattle.number.specs.declared.Refusal.the-variants.{Tail}
+use Rattle.number.specs.declared.Refusal.the-variants.{Number, Tail, Padded}
 use Rattle.number.specs.Limits.{group, twoGroups, threeGroups, version, lastVersion, rules, kinds, nodes, lastCode, bytes, lastByte}
 use Rattle.number.specs.Limits.{firstLetter, lastLetter, capital, states, tableCells, treeNodes, pool, pairs, shownText}
 use Rattle.number.specs.Limits.{workCells, scratch, deep, typedArea, bookFile, textFile, sheetFile, rulesFile}
@@ -17,14 +17,14 @@ use Rattle.number.specs.Refused.Outcome.{gives, refuses}
 use Rattle.number.specs.Refused.Row.{noRow, row}
 use Rattle.number.specs.Rows.{refusalsAt, refusalOf}
 use Rattle.number.specs.declared.Taken.the-variants.{Value, Refused}
-use Rattle.number.specs.Numbers.{Bytes, taken, due, several, readNumber, within, field, writeNumber, NumberAt, FieldAt}
-use Rattle.number.specs.Faults.{NumberFault, FieldFault}
+use Rattle.number.specs.Numbers.{Bytes, taken, due, several, readNumber, groupsOf, groupsRead, within, field, writeNumber, NumberAt, FieldAt}
+use Rattle.number.specs.Faults.{NumberFault, RunsOn, PaddedTo, FieldFault}
 use Rattle.number.specs.Reading.{Reader, _>>=_, _>>_, end}
 use Rattle.number.specs.Lists.{written, Writes, written-length, before-written, there-written, past-written, only-written}
-use Rattle.number.specs.Sample.{answered, stated, readLines}
+use Rattle.number.specs.Sample.{answered, stated, readLines, groupsTold, groupsStated, groupLines}
 use Rattle.number.specs.RowLaws.{row-back, row-one}
-use Rattle.number.specs.NumberLaws.{read-written, written-read, field-written, field-read}
-use Rattle.number.specs.FaultLaws.{refused-fault, fault-refused, refused-field, field-fault}
+use Rattle.number.specs.NumberLaws.{read-written, written-read, groups-read, groups-written, field-written, field-read}
+use Rattle.number.specs.FaultLaws.{refused-fault, fault-refused, refused-runs-on, runs-on-refused, refused-padded, padded-refused, refused-field, field-fault}
 use Rattle.number.specs.MainLaws.{written-room, bytes-none, bytes-more, end-tail, end-none}
 
 -- ---- limits and refusals
@@ -61,7 +61,7 @@ the-limits =
 pub record RefusalRows (A : Type 0) : Type 0 where
   pub rows : (at : ℕ) → map (λ (r : Refusal). rowOf {A = A} (refuses r)) (refusalsAt at) ≡
       row 1 at ∷ row 2 at ∷ row 3 at ∷ row 4 at ∷ row 5 at ∷ row 6 at ∷ row 7 at ∷ row 8 at ∷ row 9 at ∷
-      row 10 0 ∷ row 11 0 ∷ row 12 at ∷ row 13 0 ∷ row 14 at ∷ []
+      row 10 0 ∷ row 11 0 ∷ row 12 at ∷ row 13 0 ∷ row 14 at ∷ row 15 at ∷ []
   pub read : (r : Refusal) → rowRead {A = A} (refused r) ≡ rowOf {A = A} (refuses r)
   pub answers : (x : A) (next : ℕ) → (rowOf (gives x) ≡ noRow) × (rowRead (got x next) ≡ noRow)
 
@@ -97,6 +97,11 @@ pub the-read-lines : map answered readLines ≡ map stated readLines
 unfolding readLines field within readNumber due several
 the-read-lines = refl
 
+-- and of numbers worked by hand, right and refused ones, how many groups are told
+pub the-group-lines : map groupsTold groupLines ≡ map groupsStated groupLines
+unfolding groupLines groupsRead groupsOf
+the-group-lines = refl
+
 -- what was written is read, whatever follows it, and the place after it is told
 pub the-written-number : (n : ℕ) (s : List ℕ) (at : ℕ) (t : List ℕ) → n < threeGroups → drop at s ≡ writeNumber n ++ t
     → readNumber s at ≡ got n (at + length (writeNumber n))
@@ -106,11 +111,34 @@ the-written-number = read-written
 pub the-read-number : (s : List ℕ) (at n next : ℕ) → Bytes s → readNumber s at ≡ got n next → NumberAt s at n next
 the-read-number = written-read
 
--- exactly what is wrong is refused, Short or Number, at the number's first byte
-pub the-refused-number : (s : List ℕ) (at : ℕ) (r : Refusal) → (readNumber s at ≡ refused r) ↔ NumberFault s at r
-the-refused-number s at r = (refused-fault s at r, fault-refused s at r)
+-- the groups of a number: as many as it is written in, and the place after it is so far on
+pub the-written-groups : (n : ℕ) (s : List ℕ) (at : ℕ) (t : List ℕ) → n < threeGroups → drop at s ≡ writeNumber n ++ t
+    → groupsRead s at ≡ length (writeNumber n)
+the-written-groups = groups-written
 
--- the same of a field: a number from lo to hi is read, what is read lies there, and exactly what is wrong is refused, Short, Number or Range
+pub the-read-groups : (s : List ℕ) (at n next : ℕ) → readNumber s at ≡ got n next
+    → (next ≡ at + groupsRead s at) × (groupsRead s at ≡ length (writeNumber n))
+the-read-groups = groups-read
+
+-- exactly what is wrong is refused, Short, Number or Padded, at the number's first byte, and the groups that are told are those that were read
+pub the-refused-number : (s : List ℕ) (at : ℕ) (r : Refusal) (k : ℕ)
+    → ((readNumber s at ≡ refused r) × (groupsRead s at ≡ k)) ↔ NumberFault s at r k
+the-refused-number s at r k = (λ both. subst (NumberFault s at r) (both .1) (refused-fault s at r (both .0)), fault-refused s at r k)
+
+-- the two reasons for a bad number, each by itself: Number exactly where three bytes of 128 and up stand; Padded exactly where two or three groups
+-- stand of which the last is 0, and then so many are told
+pub record TwoReasons (s : List ℕ) (at : ℕ) : Type 0 where
+  pub runs-on : (readNumber s at ≡ refused (Number at)) ↔ RunsOn s at
+  pub padded : (k : ℕ) → ((readNumber s at ≡ refused (Padded at)) × (groupsRead s at ≡ k)) ↔ PaddedTo s at k
+
+pub the-two-reasons : (s : List ℕ) (at : ℕ) → TwoReasons s at
+the-two-reasons s at =
+    record {
+      runs-on = (refused-runs-on s at, runs-on-refused s at);
+      padded = λ k. (λ both. subst (PaddedTo s at) (both .1) (refused-padded s at (both .0)), padded-refused s at k);
+    }
+
+-- the same of a field: a number from lo to hi is read, what is read lies there, and exactly what is wrong is refused, Short, Number, Padded or Range
 pub the-written-field : (n : ℕ) (s : List ℕ) (lo hi at : ℕ) (t : List ℕ) → n < threeGroups → lo ≤ n → n ≤ hi
     → drop at s ≡ writeNumber n ++ t → field s lo hi at ≡ got n (at + length (writeNumber n))
 the-written-field = field-written

@@ -2,61 +2,64 @@
 -- First the ways that reading and writing can go, each with what it met; the code's proofs cite those too.
 use Prim.Native.Nat.{ℕ, suc, _+_, _*_, _/_, _%_, _<_, _≤_}
 use native.Mathlib.Omega.{arith}
-use mathlib.Core.Path.{_≡_, refl, sym, ap, _∙_}
-use mathlib.Core.Logic.{_⊎_, inl, inr, ⊎-elim}
+use mathlib.Core.Path.{_≡_, refl, sym, ap, subst, _∙_}
 use mathlib.Core.Bool.{cond}
 use mathlib.Core.List.{List, [], _∷_, _++_}
 use borrow.Author.Tests.{lt-ltb, le-ltb, eq-eqb, ne-eqb, ltb-true, ltb-false}
-use lib.Dec.{ltb, eqb}
-use lib.ListN.{length, getD, drop}
+use lib.Dec.{ltb}
+use lib.ListN.{length, getD, drop, drop-of-length-le}
 use Rattle.number.specs.declared.Refusal.{Refusal}
-use Rattle.number.specs.declared.Refusal.the-variants.{Short, Number, Range}
+use Rattle.number.specs.declared.Refusal.the-variants.{Short, Number, Range, Padded}
 use Rattle.number.specs.Limits.{group, twoGroups, threeGroups, bytes}
 use Rattle.number.specs.Refused.{Answer}
 use Rattle.number.specs.Refused.Answer.{got, refused}
-use Rattle.number.specs.Numbers.{Bytes, due, several, readNumber, within, field, writeNumber, NumberAt, FieldAt}
+use Rattle.number.specs.Numbers.{Bytes, due, several, readNumber, groupsOf, groupsRead, within, field, writeNumber, NumberAt, FieldAt}
 use Rattle.number.specs.Branch.{by-cond}
 use Rattle.number.specs.Lists.{drop-one, drop-two, drop-three, drop-room, drop-at-place, drop-head}
 
 -- ---- reading, way by way
 
--- what each of the seven ways met and answers: a, b and c are the bytes, given with where they stand, as the code has them
-pub data Way (s : List ℕ) (at : ℕ) : Answer ℕ → Type 0 where
-  none : length s ≤ at → Way s at (refused (Short at))
-  one : (a : ℕ) → at < length s → a ≡ getD s at 0 → a < group → Way s at (got a (at + 1))
-  half : (a : ℕ) → at < length s → a ≡ getD s at 0 → group ≤ a → length s ≤ at + 1 → Way s at (refused (Short at))
+-- what each of the seven ways met, answers and read groups of: a, b and c are the bytes, given with where they stand, as the code has them
+pub data Way (s : List ℕ) (at : ℕ) : Answer ℕ → ℕ → Type 0 where
+  none : length s ≤ at → Way s at (refused (Short at)) 0
+  one : (a : ℕ) → at < length s → a ≡ getD s at 0 → a < group → Way s at (got a (at + 1)) 1
+  half : (a : ℕ) → at < length s → a ≡ getD s at 0 → group ≤ a → length s ≤ at + 1 → Way s at (refused (Short at)) 1
   two : (a b : ℕ) → at + 1 < length s → a ≡ getD s at 0 → b ≡ getD s (at + 1) 0 → group ≤ a → b < group
-      → Way s at (several at b (got (a % group + group * b) (at + 2)))
+      → Way s at (several at b (got (a % group + group * b) (at + 2))) 2
   most : (a b : ℕ) → at + 1 < length s → a ≡ getD s at 0 → b ≡ getD s (at + 1) 0 → group ≤ a → group ≤ b
-      → length s ≤ at + 2 → Way s at (refused (Short at))
+      → length s ≤ at + 2 → Way s at (refused (Short at)) 2
   three : (a b c : ℕ) → at + 2 < length s → a ≡ getD s at 0 → b ≡ getD s (at + 1) 0 → c ≡ getD s (at + 2) 0
       → group ≤ a → group ≤ b → c < group
-      → Way s at (several at c (got (a % group + group * (b % group) + twoGroups * c) (at + 3)))
+      → Way s at (several at c (got (a % group + group * (b % group) + twoGroups * c) (at + 3))) 3
   over : (a b c : ℕ) → at + 2 < length s → a ≡ getD s at 0 → b ≡ getD s (at + 1) 0 → c ≡ getD s (at + 2) 0
-      → group ≤ a → group ≤ b → group ≤ c → Way s at (refused (Number at))
+      → group ≤ a → group ≤ b → group ≤ c → Way s at (refused (Number at)) 3
 
--- reading goes one of the ways, and each way is what reading answers
-pub read-way : (s : List ℕ) (at : ℕ) → Way s at (readNumber s at)
+-- reading goes one of the ways
+abbrev SomeWay : List ℕ → ℕ → Answer ℕ → Type 0
+SomeWay s at x = (groups : ℕ) × Way s at x groups
+
+some-way : (s : List ℕ) (at : ℕ) → SomeWay s at (readNumber s at)
 unfolding readNumber due
-read-way s at =
+some-way s at =
     let a : ℕ = getD s at 0 in
     let b : ℕ = getD s (at + 1) 0 in
     let c : ℕ = getD s (at + 2) 0 in
-    by-cond (Way s at) (ltb at (length s))
-    (λ h. by-cond (Way s at) (ltb a group)
-    (λ k. one a (ltb-true _ _ h) refl (ltb-true _ _ k))
-    (λ k. by-cond (Way s at) (ltb (at + 1) (length s))
-    (λ h1. by-cond (Way s at) (ltb b group)
-    (λ l. two a b (ltb-true _ _ h1) refl refl (ltb-false _ _ k) (ltb-true _ _ l))
-    (λ l. by-cond (Way s at) (ltb (at + 2) (length s))
-    (λ h2. by-cond (Way s at) (ltb c group)
-    (λ m. three a b c (ltb-true _ _ h2) refl refl refl (ltb-false _ _ k) (ltb-false _ _ l) (ltb-true _ _ m))
-    (λ m. over a b c (ltb-true _ _ h2) refl refl refl (ltb-false _ _ k) (ltb-false _ _ l) (ltb-false _ _ m)))
-    (λ h2. most a b (ltb-true _ _ h1) refl refl (ltb-false _ _ k) (ltb-false _ _ l) (ltb-false _ _ h2))))
-    (λ h1. half a (ltb-true _ _ h) refl (ltb-false _ _ k) (ltb-false _ _ h1))))
-    (λ h. none (ltb-false _ _ h))
+    by-cond (SomeWay s at) (ltb at (length s))
+    (λ h. by-cond (SomeWay s at) (ltb a group)
+    (λ k. (1, one a (ltb-true _ _ h) refl (ltb-true _ _ k)))
+    (λ k. by-cond (SomeWay s at) (ltb (at + 1) (length s))
+    (λ h1. by-cond (SomeWay s at) (ltb b group)
+    (λ l. (2, two a b (ltb-true _ _ h1) refl refl (ltb-false _ _ k) (ltb-true _ _ l)))
+    (λ l. by-cond (SomeWay s at) (ltb (at + 2) (length s))
+    (λ h2. by-cond (SomeWay s at) (ltb c group)
+    (λ m. (3, three a b c (ltb-true _ _ h2) refl refl refl (ltb-false _ _ k) (ltb-false _ _ l) (ltb-true _ _ m)))
+    (λ m. (3, over a b c (ltb-true _ _ h2) refl refl refl (ltb-false _ _ k) (ltb-false _ _ l) (ltb-false _ _ m))))
+    (λ h2. (2, most a b (ltb-true _ _ h1) refl refl (ltb-false _ _ k) (ltb-false _ _ l) (ltb-false _ _ h2)))))
+    (λ h1. (1, half a (ltb-true _ _ h) refl (ltb-false _ _ k) (ltb-false _ _ h1)))))
+    (λ h. (0, none (ltb-false _ _ h)))
 
-pub way-read : (s : List ℕ) (at : ℕ) {x : Answer ℕ} → Way s at x → x ≡ readNumber s at
+-- each way is what reading answers, and the groups that it reads
+pub way-read : (s : List ℕ) (at : ℕ) {x : Answer ℕ} {g : ℕ} → Way s at x g → x ≡ readNumber s at
 unfolding readNumber due
 way-read s at (none h) = simp (le-ltb _ _ h)
 way-read s at (one a h e k) = simp (lt-ltb _ _ h, ← e, lt-ltb _ _ k)
@@ -74,8 +77,26 @@ way-read s at (over a b c h2 e f g k l m) =
     let h1 : at + 1 < length s = omega arith in
     simp (lt-ltb _ _ h, ← e, le-ltb _ _ k, lt-ltb _ _ h1, ← f, le-ltb _ _ l, lt-ltb _ _ h2, ← g, le-ltb _ _ m)
 
+pub way-groups : (s : List ℕ) (at : ℕ) {x : Answer ℕ} {g : ℕ} → Way s at x g → g ≡ groupsRead s at
+unfolding groupsRead groupsOf
+way-groups s at (none h) = simp (drop-of-length-le s h)
+way-groups s at (one a h e k) = simp (drop-one s at h, ← e, lt-ltb _ _ k)
+way-groups s at (half a h e k h1) = simp (drop-one s at h, ← e, le-ltb _ _ k, drop-of-length-le s h1)
+way-groups s at (two a b h1 e f k l) = simp (drop-two s at h1, ← e, le-ltb _ _ k, ← f, lt-ltb _ _ l)
+way-groups s at (most a b h1 e f k l h2) =
+    simp (drop-two s at h1, ← e, le-ltb _ _ k, ← f, le-ltb _ _ l, drop-of-length-le s h2)
+way-groups s at (three a b c h2 e f g k l m) =
+    simp (drop-three s at h2, ← e, le-ltb _ _ k, ← f, le-ltb _ _ l, ← g, lt-ltb _ _ m)
+way-groups s at (over a b c h2 e f g k l m) =
+    simp (drop-three s at h2, ← e, le-ltb _ _ k, ← f, le-ltb _ _ l, ← g, le-ltb _ _ m)
+
+pub read-way : (s : List ℕ) (at : ℕ) → Way s at (readNumber s at) (groupsRead s at)
+read-way s at =
+    let found = some-way s at in
+    subst (Way s at (readNumber s at)) (way-groups s at (found .1)) (found .1)
+
 -- the last of several groups: 0 is refused, and what is not 0 leaves the answer as it is
-pub several-none : (at last : ℕ) (x : Answer ℕ) → last ≡ 0 → several at last x ≡ refused (Number at)
+pub several-none : (at last : ℕ) (x : Answer ℕ) → last ≡ 0 → several at last x ≡ refused (Padded at)
 unfolding several
 several-none at last x e = simp (eq-eqb _ _ e)
 
@@ -201,7 +222,7 @@ number-at s at n next way here small after inside =
 pub written-read : (s : List ℕ) (at n next : ℕ) → Bytes s → readNumber s at ≡ got n next → NumberAt s at n next
 written-read s at n next all r = go (read-way s at) r
   where
-    go : {x : Answer ℕ} → Way s at x → x ≡ got n next → NumberAt s at n next
+    go : {x : Answer ℕ} {g : ℕ} → Way s at x g → x ≡ got n next → NumberAt s at n next
     go (none h) e = absurd (clash e)
     go (one a h f k) e =
         let value : n ≡ a = cc in
@@ -232,26 +253,34 @@ written-read s at n next all r = go (read-way s at) r
         number-at s at n next (three (omega arith)) (cc (drop-three s at h2)) (omega arith) place (omega arith)
     go (over a b c h2 f g i k l m) e = absurd (clash e)
 
--- ---- a refusal is of the number's own place
+-- ---- the groups of a number that is read
 
-several-refused : (at last n next : ℕ) (r : Refusal) → several at last (got n next) ≡ refused r → r ≡ Number at
-unfolding several
-several-refused at last n next r =
-    by-cond (λ (x : Answer ℕ). x ≡ refused r → r ≡ Number at) (eqb last 0)
-    (λ z e. cc)
-    (λ z e. absurd (clash (sym e)))
-
-pub number-refusal : (s : List ℕ) (at : ℕ) (r : Refusal) → readNumber s at ≡ refused r → (r ≡ Short at) ⊎ (r ≡ Number at)
-number-refusal s at r = go (read-way s at)
+pub groups-read : (s : List ℕ) (at n next : ℕ) → readNumber s at ≡ got n next
+    → (next ≡ at + groupsRead s at) × (groupsRead s at ≡ length (writeNumber n))
+groups-read s at n next = go (read-way s at)
   where
-    go : {x : Answer ℕ} → Way s at x → x ≡ refused r → (r ≡ Short at) ⊎ (r ≡ Number at)
-    go (none h) e = inl (cc)
-    go (one a h f k) e = absurd (clash (sym e))
-    go (half a h f k h1) e = inl (cc)
-    go (two a b h1 f g k l) e = inr (several-refused at b _ _ r e)
-    go (most a b h1 f g k l h2) e = inl (cc)
-    go (three a b c h2 f g i k l m) e = inr (several-refused at c _ _ r e)
-    go (over a b c h2 f g i k l m) e = inr (cc)
+    go : {x : Answer ℕ} {g : ℕ} → Way s at x g → x ≡ got n next → (next ≡ at + g) × (g ≡ length (writeNumber n))
+    go (none h) e = absurd (clash e)
+    go (one a h f k) e =
+        let value : n ≡ a = cc in
+        (cc, sym (width-is n (one (omega arith))))
+    go (half a h f k h1) e = absurd (clash e)
+    go (two a b h1 f g k l) e =
+        let got-it = several-got at b n next _ e in
+        let value : n ≡ a % group + group * b = cc (got-it .1) in
+        let some : 1 ≤ b = omega (arith, got-it .0) in
+        (cc (got-it .1), sym (width-is n (two (omega arith) (omega arith))))
+    go (most a b h1 f g k l h2) e = absurd (clash e)
+    go (three a b c h2 f g i k l m) e =
+        let got-it = several-got at c n next _ e in
+        let value : n ≡ a % group + group * (b % group) + twoGroups * c = cc (got-it .1) in
+        let some : 1 ≤ c = omega (arith, got-it .0) in
+        (cc (got-it .1), sym (width-is n (three (omega arith))))
+    go (over a b c h2 f g i k l m) e = absurd (clash e)
+
+pub groups-written : (n : ℕ) (s : List ℕ) (at : ℕ) (t : List ℕ) → n < threeGroups → drop at s ≡ writeNumber n ++ t
+    → groupsRead s at ≡ length (writeNumber n)
+groups-written n s at t small e = groups-read s at n _ (read-written n s at t small e) .1
 
 -- ---- fields
 
@@ -293,18 +322,3 @@ field-read s lo hi at n next = go (readNumber s at) refl
         (λ y e.
         let value : n ≡ m = cc in
         record { low = omega (arith, ltb-false m lo z); high = omega (arith, ltb-false hi m y); read = f ∙ e }))
-
-pub field-refusal : (s : List ℕ) (lo hi at : ℕ) (r : Refusal) → field s lo hi at ≡ refused r
-    → (r ≡ Short at) ⊎ ((r ≡ Number at) ⊎ (r ≡ Range at))
-unfolding field within
-field-refusal s lo hi at r = go (readNumber s at) refl
-  where
-    go : (x : Answer ℕ) → readNumber s at ≡ x → within at lo hi x ≡ refused r
-        → (r ≡ Short at) ⊎ ((r ≡ Number at) ⊎ (r ≡ Range at))
-    go (refused q) f = λ e. ⊎-elim (λ h. inl h) (λ h. inr (inl h)) (number-refusal s at r (f ∙ e))
-    go (got m k) f =
-        by-cond (λ (x : Answer ℕ). x ≡ refused r → (r ≡ Short at) ⊎ ((r ≡ Number at) ⊎ (r ≡ Range at))) (ltb m lo)
-        (λ z e. inr (inr (cc)))
-        (λ z. by-cond (λ (x : Answer ℕ). x ≡ refused r → (r ≡ Short at) ⊎ ((r ≡ Number at) ⊎ (r ≡ Range at))) (ltb hi m)
-        (λ y e. inr (inr (cc)))
-        (λ y e. absurd (clash (sym e))))

@@ -1,12 +1,12 @@
 -- Numbers in files: groups of seven bits, least first, one byte a group, the high bit on every group but the last.
 -- At most three groups, and the shortest form only: the last of two or three groups is not 0.
-use Prim.Native.Nat.{ℕ, _+_, _*_, _/_, _%_, _<_, _≤_}
+use Prim.Native.Nat.{ℕ, suc, _+_, _*_, _/_, _%_, _<_, _≤_}
 use mathlib.Core.Path.{_≡_}
 use mathlib.Core.Bool.{cond}
 use mathlib.Core.List.{List, [], _∷_, _++_}
 use lib.Dec.{ltb, eqb}
-use lib.ListN.{length, getD, drop}
-use Rattle.number.specs.declared.Refusal.the-variants.{Short, Number, Range}
+use lib.ListN.{length, getD, take, drop}
+use Rattle.number.specs.declared.Refusal.the-variants.{Short, Number, Range, Padded}
 use Rattle.number.specs.declared.Taken.{Taken}
 use Rattle.number.specs.declared.Taken.the-variants.{Value, Refused}
 use Rattle.number.specs.Limits.{group, twoGroups, threeGroups, bytes}
@@ -28,7 +28,7 @@ due s at here onward = cond (ltb here (length s)) (onward (getD s here 0)) (refu
 
 -- the last of several groups is not 0
 unfoldable pub several : ℕ → ℕ → Answer ℕ → Answer ℕ
-several at last answer = cond (eqb last 0) (refused (Number at)) answer
+several at last answer = cond (eqb last 0) (refused (Padded at)) answer
 
 -- the number that starts at `at`: one group, or two, or three; a third group does not go on
 unfoldable pub readNumber : List ℕ → ℕ → Answer ℕ
@@ -41,12 +41,21 @@ readNumber s at =
     cond (ltb c group) (several at c (got (a % group + group * (b % group) + twoGroups * c) (at + 3)))
     (refused (Number at))))
 
+-- how many of these bytes are groups of one number: those up to and with the first that does not go on, or all where each goes on
+unfoldable pub groupsOf : List ℕ → ℕ
+groupsOf [] = 0
+groupsOf (b ∷ more) = cond (ltb b group) 1 (suc (groupsOf more))
+
+-- how many groups are read of the number that starts at `at`, be it refused or not: at most three, and no more than are there
+unfoldable pub groupsRead : List ℕ → ℕ → ℕ
+groupsRead s at = groupsOf (take 3 (drop at s))
+
 -- a value outside its field is refused at the number's own place
 unfoldable pub within : ℕ → ℕ → ℕ → Answer ℕ → Answer ℕ
 within at lo hi (got value next) = cond (ltb value lo) (refused (Range at)) (cond (ltb hi value) (refused (Range at)) (got value next))
 within at lo hi (refused r) = refused r
 
--- a field of a file: a number from lo to hi; within a number the order is Short, Number, Range
+-- a field of a file: a number from lo to hi; within a number the order is Short, then Number or Padded, then Range
 unfoldable pub field : List ℕ → ℕ → ℕ → ℕ → Answer ℕ
 field s lo hi at = within at lo hi (readNumber s at)
 

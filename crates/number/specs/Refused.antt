@@ -1,8 +1,8 @@
--- What each refusal means on paper: its number and its place, as the table of numbered refusals has them; 14 comes from document 02.
+-- What each refusal means on paper: its number and its place, as the table of numbered refusals has them; 14 and 15 come from document 02.
 -- Also the answer of a reader: what it got and the place after it, or why it refused.
 use Prim.Native.Nat.{ℕ}
 use Rattle.number.specs.declared.Refusal.{Refusal}
-use Rattle.number.specs.declared.Refusal.the-variants.{Short, Number, Range, Stack, Tail, Long, Pool, States, Runs, Loaded, Room, Pairs, Input, Typed}
+use Rattle.number.specs.declared.Refusal.the-variants.{Short, Number, Range, Stack, Tail, Long, Pool, States, Runs, Loaded, Room, Pairs, Input, Typed, Padded}
 
 -- the number in the first column
 abbrev pub number : Refusal → ℕ
@@ -20,6 +20,7 @@ number Room = 11
 number (Pairs at) = 12
 number Input = 13
 number (Typed at) = 14
+number (Padded at) = 15
 
 -- the place in the last column
 abbrev pub place : Refusal → ℕ
@@ -37,6 +38,7 @@ place Room = 0
 place (Pairs at) = at
 place Input = 0
 place (Typed at) = at
+place (Padded at) = at
 
 -- what reading at a place answers: something and the place after it, or a refusal
 pub data Answer (A : Type 0) : Type 0 where

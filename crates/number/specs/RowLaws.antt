@@ -5,7 +5,7 @@ use mathlib.Core.Path.{_≡_, refl}
 use mathlib.Core.Bool.{false}
 use lib.Dec.{eqb}
 use Rattle.number.specs.declared.Refusal.{Refusal}
-use Rattle.number.specs.declared.Refusal.the-variants.{Short, Number, Range, Stack, Tail, Long, Pool, States, Runs, Loaded, Room, Pairs, Input, Typed}
+use Rattle.number.specs.declared.Refusal.the-variants.{Short, Number, Range, Stack, Tail, Long, Pool, States, Runs, Loaded, Room, Pairs, Input, Typed, Padded}
 use Rattle.number.specs.Refused.{number, place, Row}
 use Rattle.number.specs.Refused.Row.{row}
 use Rattle.number.specs.Rows.{refusalOf}
@@ -29,6 +29,7 @@ row-back Room = record { some = refl; back = refl }
 row-back (Pairs at) = record { some = refl; back = refl }
 row-back Input = record { some = refl; back = refl }
 row-back (Typed at) = record { some = refl; back = refl }
+row-back (Padded at) = record { some = refl; back = refl }
 
 pub row-one : (q r : Refusal) → row (number q) (place q) ≡ row (number r) (place r) → q ≡ r
 row-one q r e = cc (row-back q .back, row-back r .back)

@@ -5,12 +5,13 @@ use mathlib.Core.Bool.{cond}
 use mathlib.Core.List.{List, [], _∷_}
 use lib.Dec.{eqb}
 use Rattle.number.specs.declared.Refusal.{Refusal}
-use Rattle.number.specs.declared.Refusal.the-variants.{Short, Number, Range, Stack, Tail, Long, Pool, States, Runs, Loaded, Room, Pairs, Input, Typed}
+use Rattle.number.specs.declared.Refusal.the-variants.{Short, Number, Range, Stack, Tail, Long, Pool, States, Runs, Loaded, Room, Pairs, Input, Typed, Padded}
 
 -- all of them, those that have a place at this one
 abbrev pub refusalsAt : ℕ → List Refusal
 refusalsAt at =
-    Short at ∷ Number at ∷ Range at ∷ Stack at ∷ Tail at ∷ Long at ∷ Pool at ∷ States at ∷ Runs at ∷ Loaded ∷ Room ∷ Pairs at ∷ Input ∷ Typed at ∷ []
+    Short at ∷ Number at ∷ Range at ∷ Stack at ∷ Tail at ∷ Long at ∷ Pool at ∷ States at ∷ Runs at ∷ Loaded ∷ Room ∷ Pairs at ∷ Input ∷ Typed at ∷
+    Padded at ∷ []
 
 -- the refusal of a number, at a place
 abbrev pub refusalOf : ℕ → ℕ → Refusal
@@ -27,4 +28,5 @@ refusalOf n at =
     (cond (eqb n 10) Loaded
     (cond (eqb n 11) Room
     (cond (eqb n 12) (Pairs at)
-    (cond (eqb n 13) Input (Typed at)))))))))))))
+    (cond (eqb n 13) Input
+    (cond (eqb n 14) (Typed at) (Padded at))))))))))))))

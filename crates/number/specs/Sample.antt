@@ -1,10 +1,10 @@
--- Numbers of files worked by hand: document 01's own, each width from both sides, and fields at their bounds, with what is answered of each.
--- Main has the theorem that the readers answer so; the checker computes it.
+-- Numbers of files worked by hand: document 01's own, each width from both sides, and fields at their bounds, with what is answered of each; and how many groups are told of a number.
+-- Main has the theorems that the readers answer and tell so; the checker computes them.
 use Prim.Native.Nat.{ℕ, zero, suc}
 use mathlib.Core.List.{List, [], _∷_, _++_}
 use Rattle.number.specs.Refused.{Answer, number, place}
 use Rattle.number.specs.Refused.Answer.{got, refused}
-use Rattle.number.specs.Numbers.{readNumber, field}
+use Rattle.number.specs.Numbers.{readNumber, groupsRead, field}
 use Rattle.number.specs.Reading.{Reader}
 
 -- the same bytes so many times, for the lists of files above
@@ -50,12 +50,15 @@ readLines =
     reads (readNumber (0x80 ∷ 0x80 ∷ [])) 0 (refusal 1 0) ∷
     reads (readNumber (0x05 ∷ 0xFF ∷ 0xFF ∷ [])) 1 (refusal 1 1) ∷
     reads (readNumber (0x05 ∷ [])) 7 (refusal 1 7) ∷
-    -- the last of several groups is 0; the third group goes on, whatever follows
-    reads (readNumber (0x80 ∷ 0x00 ∷ [])) 0 (refusal 2 0) ∷
-    reads (readNumber (0x80 ∷ 0x80 ∷ 0x00 ∷ [])) 0 (refusal 2 0) ∷
+    -- the last of several groups is 0, whatever the others are; the third group goes on, whatever follows
+    reads (readNumber (0x80 ∷ 0x00 ∷ [])) 0 (refusal 15 0) ∷
+    reads (readNumber (0x80 ∷ 0x80 ∷ 0x00 ∷ [])) 0 (refusal 15 0) ∷
+    reads (readNumber (0xFF ∷ 0x00 ∷ [])) 0 (refusal 15 0) ∷
+    reads (readNumber (0x81 ∷ 0xFF ∷ 0x00 ∷ 0x01 ∷ [])) 0 (refusal 15 0) ∷
     reads (readNumber (0x80 ∷ 0x80 ∷ 0x80 ∷ [])) 0 (refusal 2 0) ∷
+    reads (readNumber (0x80 ∷ 0x80 ∷ 0x80 ∷ 0x00 ∷ [])) 0 (refusal 2 0) ∷
     reads (readNumber (0xFF ∷ 0xFF ∷ 0xFF ∷ 0x01 ∷ [])) 0 (refusal 2 0) ∷
-    reads (readNumber (0x05 ∷ 0x05 ∷ 0x80 ∷ 0x00 ∷ [])) 2 (refusal 2 2) ∷
+    reads (readNumber (0x05 ∷ 0x05 ∷ 0x80 ∷ 0x00 ∷ [])) 2 (refusal 15 2) ∷
     -- a field from 1 to 32: below, its lowest, its highest, above
     reads (field (0x00 ∷ []) 1 32) 0 (refusal 3 0) ∷
     reads (field (0x01 ∷ []) 1 32) 0 (value 1 1) ∷
@@ -68,8 +71,39 @@ readLines =
     reads (field (0x06 ∷ 0x61 ∷ []) 97 122) 1 (value 97 2) ∷
     reads (field (0x06 ∷ 0x7A ∷ []) 97 122) 1 (value 122 2) ∷
     reads (field (0x06 ∷ 0x7B ∷ []) 97 122) 1 (refusal 3 1) ∷
-    -- Short and Number come before Range: each of these would be out of its field
+    -- Short, Number and Padded come before Range: each of these would be out of its field
     reads (field [] 1 32) 0 (refusal 1 0) ∷
     reads (field (0x80 ∷ []) 1 32) 0 (refusal 1 0) ∷
-    reads (field (0x80 ∷ 0x00 ∷ []) 1 32) 0 (refusal 2 0) ∷
+    reads (field (0x80 ∷ 0x00 ∷ []) 1 32) 0 (refusal 15 0) ∷
+    reads (field (0xA1 ∷ 0x80 ∷ 0x00 ∷ []) 1 32) 0 (refusal 15 0) ∷
     reads (field (0xFF ∷ 0xFF ∷ 0x80 ∷ []) 1 32) 0 (refusal 2 0) ∷ []
+
+-- a file, the place where a number starts, and the groups that are told of it
+pub data GroupLine : Type 0 where
+  groups : List ℕ → ℕ → ℕ → GroupLine
+
+abbrev pub groupsTold : GroupLine → ℕ
+groupsTold (groups file at k) = groupsRead file at
+
+abbrev pub groupsStated : GroupLine → ℕ
+groupsStated (groups file at k) = k
+
+unfoldable pub groupLines : List GroupLine
+groupLines =
+    -- numbers of one group, two and three, from a place on and whatever follows
+    groups (0x00 ∷ []) 0 1 ∷
+    groups (0x7F ∷ 0x80 ∷ []) 0 1 ∷
+    groups (0xAC ∷ 0x02 ∷ []) 0 2 ∷
+    groups (0x05 ∷ 0x80 ∷ 0x80 ∷ 0x01 ∷ 0x00 ∷ []) 1 3 ∷
+    -- short: those that are there
+    groups [] 0 0 ∷
+    groups (0x05 ∷ []) 7 0 ∷
+    groups (0x80 ∷ []) 0 1 ∷
+    groups (0x05 ∷ 0xFF ∷ 0xFF ∷ []) 1 2 ∷
+    -- a third group that goes on: three, and never a fourth
+    groups (0x80 ∷ 0x80 ∷ 0x80 ∷ []) 0 3 ∷
+    groups (0xFF ∷ 0xFF ∷ 0xFF ∷ 0x01 ∷ []) 0 3 ∷
+    -- padded with a last group 0: two or three
+    groups (0x80 ∷ 0x00 ∷ []) 0 2 ∷
+    groups (0x05 ∷ 0x81 ∷ 0x00 ∷ 0x05 ∷ []) 1 2 ∷
+    groups (0x80 ∷ 0x80 ∷ 0x00 ∷ []) 0 3 ∷ []

@@ -31,12 +31,19 @@ pub enum Refusal {
     Pairs(usize),
     Input,
     Typed(usize),
+    Padded(usize),
 }
 
-// The answer of a reader of one number: its value and the place after it, or the refusal.
+// The answer of a reader: a value and the place after it, or the refusal.
 pub enum Taken {
     Value(usize, usize),
     Refused(Refusal),
+}
+
+// The answer of the number reader: the value and the place after it, or the refusal; and how many groups it read, be they refused or not.
+pub struct Grouped {
+    pub taken: Taken,
+    pub groups: usize,
 }
 
 // The paper's number of a refusal.
@@ -58,6 +65,7 @@ pub fn refusal_number(r: Refusal) -> usize
         Refusal::Pairs(_) => 12,
         Refusal::Input => 13,
         Refusal::Typed(_) => 14,
+        Refusal::Padded(_) => 15,
     }
 }
 
@@ -80,6 +88,7 @@ pub fn refusal_place(r: Refusal) -> usize
         Refusal::Pairs(at) => at,
         Refusal::Input => 0,
         Refusal::Typed(at) => at,
+        Refusal::Padded(at) => at,
     }
 }
 
@@ -94,50 +103,61 @@ fn shortest(at: usize, last: usize, value: usize, next: usize) -> Taken
     ensures { λ r. ⌜ taken r ≡ several at last (got value next) ⌝ }
 {
     if last == 0 {
-        Taken::Refused(Refusal::Number(at))
+        Taken::Refused(Refusal::Padded(at))
     } else {
         Taken::Value(value, next)
     }
 }
 
 // The number that starts at a place.
-pub fn read_number(bytes: &[u8], at: usize) -> Taken
+pub fn read_number(bytes: &[u8], at: usize) -> Grouped
     ensures { λ r. ⌜ ReadsNumber (now (bytes .entry)) at r ⌝ }
 {
+    let short = Taken::Refused(Refusal::Short(at));
     if bytes.len() <= at {
-        return Taken::Refused(Refusal::Short(at));
+        return Grouped {
+            taken: short,
+            groups: 0,
+        };
     }
     let a = wide(bytes[at]);
     if a < GROUP {
-        return Taken::Value(a, at + 1);
+        let taken = Taken::Value(a, at + 1);
+        return Grouped { taken, groups: 1 };
     }
     if bytes.len() - at <= 1 {
-        return Taken::Refused(Refusal::Short(at));
+        return Grouped {
+            taken: short,
+            groups: 1,
+        };
     }
     let b = wide(bytes[at + 1]);
     if b < GROUP {
-        return shortest(at, b, a % GROUP + GROUP * b, at + 2);
+        let taken = shortest(at, b, a % GROUP + GROUP * b, at + 2);
+        return Grouped { taken, groups: 2 };
     }
     if bytes.len() - at <= 2 {
-        return Taken::Refused(Refusal::Short(at));
+        return Grouped {
+            taken: short,
+            groups: 2,
+        };
     }
     let c = wide(bytes[at + 2]);
     if c < GROUP {
-        return shortest(
-            at,
-            c,
-            a % GROUP + GROUP * (b % GROUP) + TWO_GROUPS * c,
-            at + 3,
-        );
+        let value = a % GROUP + GROUP * (b % GROUP) + TWO_GROUPS * c;
+        let taken = shortest(at, c, value, at + 3);
+        return Grouped { taken, groups: 3 };
     }
-    Taken::Refused(Refusal::Number(at))
+    let taken = Taken::Refused(Refusal::Number(at));
+    Grouped { taken, groups: 3 }
 }
 
 // The number at a place, if it lies within its field.
 pub fn read_field(bytes: &[u8], at: usize, lo: usize, hi: usize) -> Taken
     ensures { λ r. ⌜ ReadsField (now (bytes .entry)) lo hi at r ⌝ }
 {
-    let got = read_number(bytes, at);
+    let read = read_number(bytes, at);
+    let got = read.taken;
     let Taken::Value(value, next) = got else {
         return got;
     };

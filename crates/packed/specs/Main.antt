@@ -63,7 +63,8 @@ pub the-refused-answers : {A : Type 0} (told : A → List ℕ) (at : ℕ) →
     (11 ∷ 0 ∷ 0 ∷ 0 ∷ 0 ∷ []) ∷
     (12 ∷ at ∷ 0 ∷ 0 ∷ 0 ∷ []) ∷
     (13 ∷ 0 ∷ 0 ∷ 0 ∷ 0 ∷ []) ∷
-    (14 ∷ at ∷ 0 ∷ 0 ∷ 0 ∷ []) ∷ []
+    (14 ∷ at ∷ 0 ∷ 0 ∷ 0 ∷ []) ∷
+    (15 ∷ at ∷ 0 ∷ 0 ∷ 0 ∷ []) ∷ []
 the-refused-answers told at = refl
 
 -- for an answer of any kind whose numbers can be read back

@@ -85,6 +85,7 @@ pub fn put_advice(text: &[u8], r: Refusal, out: &mut [u8]) -> usize
         Refusal::Input => 0,
         Refusal::Short(_) => 0,
         Refusal::Number(_) => 0,
+        Refusal::Padded(_) => 0,
         Refusal::Stack(_) => 0,
         Refusal::Tail(_) => 0,
         Refusal::Long(_) => 0,

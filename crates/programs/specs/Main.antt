@@ -155,7 +155,7 @@ the-own-sheet = own-sheet
 
 -- ---- files byte by byte
 
--- what the programs print for twelve pairs of files: kinds and places of several digits, W against the sheet in which two states are merged,
+-- what the programs print for fifteen pairs of files: kinds and places of several digits, W against the sheet in which two states are merged,
 -- an empty text, files that are refused, a book that is not built, the book's refusal before the sheet's
 pub the-prints : map printed prints ≡ map stated prints
 the-prints = prints-hold

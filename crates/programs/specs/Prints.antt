@@ -61,6 +61,10 @@ earlySheet = take 72 wSheet
 abbrev newer : List ℕ
 newer = 0x02 ∷ 0x01 ∷ []
 
+-- a book and a sheet whose count, 1, is padded to two groups
+abbrev paddedCount : List ℕ
+paddedCount = 0x01 ∷ 0x81 ∷ 0x00 ∷ []
+
 -- one rule of 129 times `a` in a row, 257 nodes: its normal form has more than 255
 unfoldable pub bytesOfA : ℕ → List ℕ
 bytesOfA zero = []
@@ -120,6 +124,10 @@ sheetEnds = refusal (49 ∷ 32 ∷ 55 ∷ 50 ∷ 10 ∷ [])
 abbrev isNewer : List ℕ
 isNewer = refusal (51 ∷ 32 ∷ 48 ∷ 10 ∷ [])
 
+-- `15 1`
+abbrev isPadded : List ℕ
+isPadded = refusal (49 ∷ 53 ∷ 32 ∷ 49 ∷ 10 ∷ [])
+
 -- `6 0`
 abbrev isLong : List ℕ
 isLong = refusal (54 ∷ 32 ∷ 48 ∷ 10 ∷ [])
@@ -133,14 +141,17 @@ prints =
     cuts lettersBook lettersText lettersLines ∷
     cuts earlyBook (116 ∷ []) bookEnds ∷
     cuts newer [] isNewer ∷
+    cuts paddedCount [] isPadded ∷
     cuts longBook [] isLong ∷
     cuts wBytes [] noWords ∷
     compares wBytes mergedSheet mergedLines ∷
     compares earlyBook wSheet bookEnds ∷
     compares earlyBook newer bookEnds ∷
     compares newer earlySheet isNewer ∷
+    compares paddedCount wSheet isPadded ∷
     compares wBytes earlySheet sheetEnds ∷
     compares wBytes newer isNewer ∷
+    compares wBytes paddedCount isPadded ∷
     compares longBook wSheet isLong ∷
     []
 

@@ -1,4 +1,4 @@
--- Sheets and tables written out, each with what document 01 says of it; SampleLaws has the checker compute them all.
+-- Sheets and tables written out, each with what documents 01 and 02 say of it; SampleLaws has the checker compute them all.
 -- They are every row that reading a sheet can give, at every field, each order of two faults, and every limit from both sides.
 use Prim.Native.Nat.{ℕ}
 use mathlib.Core.Path.{_≡_}
@@ -88,8 +88,8 @@ sheetLines =
     wrong 1 0 [] ∷
     wrong 1 0 (0x81 ∷ []) ∷
     wrong 1 0 (0x81 ∷ 0x80 ∷ []) ∷
-    wrong 2 0 (0x81 ∷ 0x00 ∷ []) ∷
-    wrong 2 0 (0x81 ∷ 0x80 ∷ 0x00 ∷ []) ∷
+    wrong 15 0 (0x81 ∷ 0x00 ∷ []) ∷
+    wrong 15 0 (0x81 ∷ 0x80 ∷ 0x00 ∷ []) ∷
     wrong 2 0 (0x81 ∷ 0x80 ∷ 0x80 ∷ []) ∷
     wrong 3 0 (0 ∷ []) ∷
     wrong 3 0 (2 ∷ []) ∷
@@ -98,8 +98,8 @@ sheetLines =
     wrong 1 1 (1 ∷ []) ∷
     wrong 1 1 (1 ∷ 0x81 ∷ []) ∷
     wrong 1 1 (1 ∷ 0x81 ∷ 0x80 ∷ []) ∷
-    wrong 2 1 (1 ∷ 0x81 ∷ 0x00 ∷ []) ∷
-    wrong 2 1 (1 ∷ 0x81 ∷ 0x81 ∷ 0x00 ∷ []) ∷
+    wrong 15 1 (1 ∷ 0x81 ∷ 0x00 ∷ []) ∷
+    wrong 15 1 (1 ∷ 0x81 ∷ 0x81 ∷ 0x00 ∷ []) ∷
     wrong 2 1 (1 ∷ 0x81 ∷ 0x81 ∷ 0x81 ∷ []) ∷
     wrong 3 1 (1 ∷ 0 ∷ []) ∷
     wrong 3 1 (1 ∷ 0x80 ∷ 0x02 ∷ []) ∷
@@ -108,15 +108,18 @@ sheetLines =
     -- a label, at 2: 32 is taken, 33 and 128 are not
     wrong 1 2 (1 ∷ 1 ∷ []) ∷
     wrong 1 2 (1 ∷ 1 ∷ 0xA0 ∷ []) ∷
-    wrong 2 2 (1 ∷ 1 ∷ 0xA0 ∷ 0x00 ∷ []) ∷
-    wrong 2 2 (1 ∷ 1 ∷ 0xA0 ∷ 0x80 ∷ 0x00 ∷ []) ∷
+    wrong 15 2 (1 ∷ 1 ∷ 0xA0 ∷ 0x00 ∷ []) ∷
+    wrong 15 2 (1 ∷ 1 ∷ 0xA0 ∷ 0x80 ∷ 0x00 ∷ []) ∷
+    wrong 15 2 (1 ∷ 1 ∷ 0xA1 ∷ 0x00 ∷ []) ∷
+    wrong 2 2 (1 ∷ 1 ∷ 0xA0 ∷ 0x80 ∷ 0x80 ∷ []) ∷
     wrong 3 2 (1 ∷ 1 ∷ 33 ∷ []) ∷
     wrong 3 2 (1 ∷ 1 ∷ 0x80 ∷ 0x01 ∷ []) ∷
     wrong 1 3 (1 ∷ 1 ∷ 32 ∷ []) ∷
     -- a run count, at 3: none and 257 are refused, 256 are taken
     wrong 1 3 (1 ∷ 1 ∷ 0 ∷ []) ∷
     wrong 1 3 (1 ∷ 1 ∷ 0 ∷ 0x81 ∷ []) ∷
-    wrong 2 3 (1 ∷ 1 ∷ 0 ∷ 0x81 ∷ 0x00 ∷ []) ∷
+    wrong 15 3 (1 ∷ 1 ∷ 0 ∷ 0x81 ∷ 0x00 ∷ []) ∷
+    wrong 15 3 (1 ∷ 1 ∷ 0 ∷ 0x81 ∷ 0x80 ∷ 0x00 ∷ []) ∷
     wrong 2 3 (1 ∷ 1 ∷ 0 ∷ 0x81 ∷ 0x80 ∷ 0x80 ∷ []) ∷
     wrong 3 3 (1 ∷ 1 ∷ 0 ∷ 0 ∷ []) ∷
     wrong 3 3 (1 ∷ 1 ∷ 0 ∷ 0x81 ∷ 0x02 ∷ []) ∷
@@ -125,14 +128,17 @@ sheetLines =
     wrong 1 4 (1 ∷ 1 ∷ 0 ∷ 1 ∷ []) ∷
     wrong 1 4 (1 ∷ 1 ∷ 0 ∷ 1 ∷ 0x80 ∷ []) ∷
     wrong 1 4 (1 ∷ 1 ∷ 0 ∷ 1 ∷ 0x80 ∷ 0x80 ∷ []) ∷
-    wrong 2 4 (1 ∷ 1 ∷ 0 ∷ 1 ∷ 0x80 ∷ 0x00 ∷ []) ∷
-    wrong 2 4 (1 ∷ 1 ∷ 0 ∷ 1 ∷ 0x80 ∷ 0x82 ∷ 0x00 ∷ []) ∷
+    wrong 15 4 (1 ∷ 1 ∷ 0 ∷ 1 ∷ 0x80 ∷ 0x00 ∷ []) ∷
+    wrong 15 4 (1 ∷ 1 ∷ 0 ∷ 1 ∷ 0x80 ∷ 0x82 ∷ 0x00 ∷ []) ∷
+    wrong 2 4 (1 ∷ 1 ∷ 0 ∷ 1 ∷ 0x80 ∷ 0x82 ∷ 0x80 ∷ []) ∷
     wrong 3 4 (1 ∷ 1 ∷ 0 ∷ 1 ∷ 0 ∷ []) ∷
     wrong 3 4 (1 ∷ 1 ∷ 0 ∷ 1 ∷ 0x81 ∷ 0x02 ∷ []) ∷
     wrong 1 6 (1 ∷ 1 ∷ 0 ∷ 1 ∷ 0x80 ∷ 0x02 ∷ []) ∷
     -- a target, at 6: the state count is refused, as the first target too, and the last state is taken
     wrong 1 6 (1 ∷ 1 ∷ 0 ∷ 1 ∷ 0x80 ∷ 0x02 ∷ 0x80 ∷ []) ∷
-    wrong 2 6 (1 ∷ 1 ∷ 0 ∷ 1 ∷ 0x80 ∷ 0x02 ∷ 0x80 ∷ 0x00 ∷ []) ∷
+    wrong 15 6 (1 ∷ 1 ∷ 0 ∷ 1 ∷ 0x80 ∷ 0x02 ∷ 0x80 ∷ 0x00 ∷ []) ∷
+    wrong 15 6 (1 ∷ 1 ∷ 0 ∷ 1 ∷ 0x80 ∷ 0x02 ∷ 0x80 ∷ 0x80 ∷ 0x00 ∷ []) ∷
+    wrong 15 6 (1 ∷ 1 ∷ 0 ∷ 1 ∷ 0x80 ∷ 0x02 ∷ 0x81 ∷ 0x00 ∷ []) ∷
     wrong 2 6 (1 ∷ 1 ∷ 0 ∷ 1 ∷ 0x80 ∷ 0x02 ∷ 0x80 ∷ 0x80 ∷ 0x80 ∷ []) ∷
     wrong 3 6 (1 ∷ 1 ∷ 0 ∷ 1 ∷ 0x80 ∷ 0x02 ∷ 1 ∷ []) ∷
     wrong 3 6 (1 ∷ 2 ∷ 0 ∷ 1 ∷ 0x80 ∷ 0x02 ∷ 2 ∷ []) ∷
@@ -144,13 +150,13 @@ sheetLines =
     wrong 9 7 (1 ∷ 2 ∷ 0 ∷ 2 ∷ 0xFF ∷ 0x01 ∷ 0 ∷ 2 ∷ []) ∷
     wrong 9 7 (1 ∷ 2 ∷ 0 ∷ 2 ∷ 0x80 ∷ 0x02 ∷ 0 ∷ 1 ∷ 1 ∷ []) ∷
     wrong 1 7 (1 ∷ 2 ∷ 0 ∷ 2 ∷ 0xFF ∷ 0x01 ∷ 0 ∷ 0x82 ∷ []) ∷
-    wrong 2 7 (1 ∷ 2 ∷ 0 ∷ 2 ∷ 0xFF ∷ 0x01 ∷ 0 ∷ 0x82 ∷ 0x00 ∷ []) ∷
+    wrong 15 7 (1 ∷ 2 ∷ 0 ∷ 2 ∷ 0xFF ∷ 0x01 ∷ 0 ∷ 0x82 ∷ 0x00 ∷ []) ∷
     wrong 3 7 (1 ∷ 2 ∷ 0 ∷ 2 ∷ 0xFF ∷ 0x01 ∷ 0 ∷ 0x81 ∷ 0x02 ∷ []) ∷
     -- equal neighbours, at the second target, 8, whatever the sum; but the target's own faults come first
     wrong 9 8 (1 ∷ 2 ∷ 0 ∷ 2 ∷ 1 ∷ 0 ∷ 0xFF ∷ 0x01 ∷ 0 ∷ []) ∷
     wrong 9 8 (1 ∷ 2 ∷ 0 ∷ 2 ∷ 1 ∷ 1 ∷ 0xFE ∷ 0x01 ∷ 1 ∷ []) ∷
     wrong 1 8 (1 ∷ 2 ∷ 0 ∷ 2 ∷ 1 ∷ 0 ∷ 0xFF ∷ 0x01 ∷ []) ∷
-    wrong 2 8 (1 ∷ 2 ∷ 0 ∷ 2 ∷ 1 ∷ 0 ∷ 0xFF ∷ 0x01 ∷ 0x80 ∷ 0x00 ∷ []) ∷
+    wrong 15 8 (1 ∷ 2 ∷ 0 ∷ 2 ∷ 1 ∷ 0 ∷ 0xFF ∷ 0x01 ∷ 0x80 ∷ 0x00 ∷ []) ∷
     wrong 3 8 (1 ∷ 2 ∷ 0 ∷ 2 ∷ 1 ∷ 0 ∷ 0xFF ∷ 0x01 ∷ 2 ∷ []) ∷
     -- a sum of 255 or less, at the byte after the state: at the file's end, before a spare byte, before a label that is missing or wrong
     wrong 9 7 (1 ∷ 1 ∷ 0 ∷ 1 ∷ 0xFF ∷ 0x01 ∷ 0 ∷ []) ∷

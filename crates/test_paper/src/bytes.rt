@@ -3,16 +3,30 @@
 use crate::say;
 use book::Checked;
 use book::RuleKind;
+use number::Grouped;
 use number::Taken;
 
-pub(crate) fn tell_number(got: Taken) {
+fn tell_taken(got: Taken) {
     match got {
         Taken::Value(value, next) => {
             say::counted(value, b" then ");
-            say::counted(next, b"\n");
+            say::count(next);
         }
-        Taken::Refused(r) => say::refused(r),
+        Taken::Refused(r) => say::refusal(r),
     }
+}
+
+pub(crate) fn tell_number(read: Grouped) {
+    let got = read.taken;
+    let groups = read.groups;
+    tell_taken(got);
+    say::text(b", groups ");
+    say::counted(groups, b"\n");
+}
+
+pub(crate) fn tell_field(got: Taken) {
+    tell_taken(got);
+    say::text(b"\n");
 }
 
 pub(crate) fn tell_book(bytes: &[u8]) {

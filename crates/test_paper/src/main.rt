@@ -31,7 +31,7 @@ fn call<'a>(case: Case, a: &'a [u8], b: &'a [u8], c: &'a [u8]) {
     let letter = case.call;
     match letter {
         b'n' => bytes::tell_number(number::read_number(a, first)),
-        b'f' => bytes::tell_number(number::read_field(a, 0, first, second)),
+        b'f' => bytes::tell_field(number::read_field(a, 0, first, second)),
         b'b' => bytes::tell_book(a),
         b'k' => bytes::tell_kind(a, first),
         b's' => tables::tell_load(a, STATES, TABLE_CELLS, first),

@@ -186,6 +186,56 @@ fn refused_comparisons() {
     compare(b"compare: a folder for a sheet\n", b"w.book", b"folder");
 }
 
+// A number that is padded to two groups or to three, in each field of a book and of a sheet: it is told at its place. Of a book one title
+// serves for cut and compare.
+fn padded_book(title: &[u8], name: &[u8]) {
+    cut(title, name, b"w.text");
+    compare(b"", name, b"own.sheet");
+}
+
+fn padded_books() {
+    padded_book(b"padded book: version, 2 groups\n", b"version2.book");
+    padded_book(b"padded book: version, 3 groups\n", b"version3.book");
+    padded_book(b"padded book: rule count, 2 groups\n", b"count2.book");
+    padded_book(b"padded book: rule count, 3 groups\n", b"count3.book");
+    padded_book(b"padded book: kind, 2 groups\n", b"kind2.book");
+    padded_book(b"padded book: kind, 3 groups\n", b"kind3.book");
+    padded_book(b"padded book: node count, 2 groups\n", b"nodes2.book");
+    padded_book(b"padded book: node count, 3 groups\n", b"nodes3.book");
+    padded_book(b"padded book: code, 2 groups\n", b"code2.book");
+    padded_book(b"padded book: code, 3 groups\n", b"code3.book");
+    padded_book(b"padded book: lo, 2 groups\n", b"lo2.book");
+    padded_book(b"padded book: lo, 3 groups\n", b"lo3.book");
+    padded_book(b"padded book: hi, 2 groups\n", b"hi2.book");
+    padded_book(b"padded book: hi, 3 groups\n", b"hi3.book");
+    padded_book(b"padded book: letter, 2 groups\n", b"letter2.book");
+    padded_book(b"padded book: letter, 3 groups\n", b"letter3.book");
+}
+
+fn padded_sheet(title: &[u8], name: &[u8]) {
+    compare(title, b"w.book", name);
+}
+
+fn padded_sheets() {
+    padded_sheet(b"padded sheet: version, 2 groups\n", b"version2.sheet");
+    padded_sheet(b"padded sheet: version, 3 groups\n", b"version3.sheet");
+    padded_sheet(b"padded sheet: state count, 2 groups\n", b"count2.sheet");
+    padded_sheet(b"padded sheet: state count, 3 groups\n", b"count3.sheet");
+    padded_sheet(b"padded sheet: label, 2 groups\n", b"label2.sheet");
+    padded_sheet(b"padded sheet: label, 3 groups\n", b"label3.sheet");
+    padded_sheet(b"padded sheet: run count, 2 groups\n", b"runs2.sheet");
+    padded_sheet(b"padded sheet: run count, 3 groups\n", b"runs3.sheet");
+    padded_sheet(b"padded sheet: length, 2 groups\n", b"length2.sheet");
+    padded_sheet(b"padded sheet: length, 3 groups\n", b"length3.sheet");
+    padded_sheet(b"padded sheet: target, 2 groups\n", b"target2.sheet");
+    padded_sheet(b"padded sheet: target, 3 groups\n", b"target3.sheet");
+    compare(
+        b"compare: a padded number in both\n",
+        b"letter3.book",
+        b"target2.sheet",
+    );
+}
+
 // At first there is no words.sheet. A shorter sheet leaves nothing of a longer one, and a refusal leaves all of it.
 fn sheets() {
     sheet(b"sheet: a book that ends a byte early\n", b"early.book");
@@ -193,6 +243,7 @@ fn sheets() {
     sheet(b"sheet: 255 states\n", b"s255.book");
     sheet(b"sheet: the sample\n", b"w.book");
     sheet(b"sheet: a book that asks for 256 states\n", b"s256.book");
+    sheet(b"sheet: a book with a padded letter\n", b"letter2.book");
     sheet(b"sheet: no book\n", b"no.book");
     sheet(b"sheet: a folder for a book\n", b"folder");
 }
@@ -202,5 +253,7 @@ fn main() {
     comparisons();
     large_comparisons();
     refused_comparisons();
+    padded_books();
+    padded_sheets();
     sheets();
 }

@@ -99,6 +99,9 @@ enum-told-11 c = search needs
 enum-told-12 : tie.Need-enum-told-12
 enum-told-12 c = search needs
 
+enum-told-13 : tie.Need-enum-told-13
+enum-told-13 c = search needs
+
 same-length-2 : tie.Need-same-length-2
 same-length-2 c = search needs
 
@@ -206,6 +209,13 @@ returns-17 c =
     let enum-told12 = c .enum-told12 in
     nothing-told _ (ap (adviceOn (start .args .text .now)) (enum-told12 .given .1))
 
+returns-18 : tie.Need-returns-18
+unfolding adviceOn
+returns-18 c =
+    let start = c .before .before .before .before in
+    let enum-told13 = c .enum-told13 in
+    nothing-told _ (ap (adviceOn (start .args .text .now)) (enum-told13 .given .1))
+
 pub put-advice-spec : {M : Type 1} → statement M
 put-advice-spec =
     tie.close
@@ -232,6 +242,7 @@ put-advice-spec =
     enum-told-10
     enum-told-11
     enum-told-12
+    enum-told-13
     same-length-2
     returns-4
     same-length-3
@@ -247,4 +258,5 @@ put-advice-spec =
     returns-14
     returns-15
     returns-16
-    returns-17)
+    returns-17
+    returns-18)
