@@ -67,6 +67,20 @@ static void cut(size_t count, const char *text)
         printf("  done\n");
 }
 
+/* The way to cut where speed counts: a whole text by one call, which tests the table once, with room for many records. */
+static void cut_whole(size_t count, const char *text)
+{
+    static const char *const ends[] = {"done", "stuck", "full"};
+    static size_t records[1000 * LUBI_RECORD];
+    size_t answer[LUBI_ANSWER];
+    size_t code = lubi_cut_from(count, labels, LUBI_STATES, targets, LUBI_TARGETS, (const uint8_t *)text, strlen(text), 0, records,
+        1000 * LUBI_RECORD, answer);
+    if (code != LUBI_GIVEN)
+        printf("whole %s: refused %zu at %zu\n", text, code, answer[0]);
+    else
+        printf("whole %s: words %zu, %s\n", text, answer[1], ends[answer[0]]);
+}
+
 /* Writes the table as its sheet, and reads that back into fresh areas. */
 static void keep(size_t count)
 {
@@ -231,6 +245,12 @@ int main(void)
     count = build(used_length);
     cut(count, "tom");
     cut(count, "to7");
+    cut_whole(count, "to7tom");
+    /* With a last rule for any byte no text is stuck: it takes what no other rule has a word for. */
+    type_rules("1:to\n2:<lower>+\n9:.\n", LUBI_BOOK);
+    count = build(used_length);
+    cut(count, "to7");
+    cut_whole(count, "to7tom");
     /* The name of the set does not go on with a plus; a kind is too large, on the second line; the area has a byte less than it needs. */
     type_rules("1:to\n2:<lower+\n", LUBI_BOOK);
     type_rules("1:to\n16384:<lower>+\n", LUBI_BOOK);

@@ -1,3 +1,4 @@
--- Parts of proofs by hand that more than one function, or none in particular, has a use for.
+-- Parts of proofs that more than one function, or none in particular, has a use for.
 -- The proofs themselves stand in the folders of their functions.
+pub mod Byte
 pub mod Relent

@@ -7,12 +7,12 @@ use native.Mathlib.Decide.{decLt}
 use mathlib.Core.Path.{_≡_, refl, sym}
 use mathlib.Core.Bool.{Bool, true, false, cond}
 use mathlib.Core.List.{List, [], _∷_}
-use borrow.Author.Tests.{eqb-true, eq-eqb}
+use borrow.Author.Tests.{eqb-true, eq-eqb, ne-eqb}
 use lib.Dec.{eqb}
 use lib.ListN.{getD}
 use Rattle.number.specs.Limits.{bytes}
 use Rattle.meaning.specs.Re.{Text}
-use Rattle.meaning.specs.Tests.{and-true, true-and}
+use Rattle.meaning.specs.Tests.{and-true}
 use Rattle.meaning.specs.Words.{Found, scan}
 use Rattle.cutting.specs.Dead.{keeps, dead, deadFrom, deadOf}
 
@@ -33,9 +33,14 @@ module _ (targets : List ℕ) (s : ℕ) where
   unfolding keeps
   keeps-none = refl
 
-  pub keeps-more : (c : ℕ) → keeps targets s c ≡ true → getD targets (s * bytes + c) 0 ≡ s → keeps targets s (c + 1) ≡ true
+  -- one more byte is looked at
+  pub keeps-more : (c : ℕ) → getD targets (s * bytes + c) 0 ≡ s → keeps targets s c ≡ keeps targets s (c + 1)
   unfolding keeps
-  keeps-more c e k = rw (add-one, keeps) (true-and (eq-eqb _ _ k) e)
+  keeps-more c k = rw (add-one, keeps, eq-eqb _ _ k) refl
+
+  pub keeps-not : (c : ℕ) → (getD targets (s * bytes + c) 0 ≡ s → ⊥) → false ≡ keeps targets s (c + 1)
+  unfolding keeps
+  keeps-not c k = rw (add-one, keeps, ne-eqb _ _ k) refl
 
 -- ---- the first dead state
 
@@ -59,9 +64,9 @@ module _ (labels targets : List ℕ) where
       go true e = absurd (not (is-dead s e))
       go false e = refl
 
-  pub dead-yes : (s : ℕ) → getD labels s 0 ≡ 0 → keeps targets s bytes ≡ true → true ≡ dead labels targets s
+  pub dead-told : (s : ℕ) → getD labels s 0 ≡ 0 → keeps targets s bytes ≡ dead labels targets s
   unfolding dead
-  dead-yes s e k = sym (true-and (eq-eqb _ _ e) k)
+  dead-told s e = rw (eq-eqb _ _ e) refl
 
   found-dead : (n s : ℕ) → deadFrom labels targets s n < s + n → dead labels targets (deadFrom labels targets s n) ≡ true
   unfolding deadFrom

@@ -15,6 +15,7 @@ use Rattle.table.specs.Table.{Table, lent, wellFormed}
 use Rattle.cutting.specs.declared.Next.{Next}
 use Rattle.cutting.specs.declared.Next.the-variants.{Word as Next·word, None}
 use Rattle.cutting.specs.declared.Place.{Place}
+use Rattle.cutting.specs.declared.Run.{Run}
 use Rattle.cutting.specs.declared.Step.{Step}
 use Rattle.cutting.specs.declared.Ended.{Ended}
 use Rattle.cutting.specs.declared.Ended.the-variants.{Done, Stuck, Full, Refused}
@@ -33,6 +34,18 @@ pub record Walkable (count : ℕ) (labels targets : List ℕ) : Type 0 where
 pub record Ready (count : ℕ) (labels targets : List ℕ) (dead : ℕ) : Type 0 where
   pub walkable : Walkable count labels targets
   pub found : dead ≡ deadOf count labels targets
+
+-- the state that the byte at a place leads to
+abbrev pub led : List ℕ → Text → ℕ → ℕ → ℕ
+led targets text state i = getD targets (state * bytes + getD text i 0) 0
+
+-- a run: the bytes from a place on that stay in a state, and what the first other one leads to; dead where there is none
+pub record Ran (targets : List ℕ) (text : Text) (state from dead : ℕ) (r : Run) : Type 0 where
+  pub onward : from ≤ r .end
+  pub within : r .end ≤ length text
+  pub stays : (i : ℕ) → from ≤ i → i < r .end → led targets text state i ≡ state
+  pub leaves : r .end < length text → (r .then ≡ led targets text state (r .end)) × (led targets text state (r .end) ≡ state → ⊥)
+  pub over : r .end ≡ length text → r .then ≡ dead
 
 -- what the walk found
 abbrev pub next : Next → Found

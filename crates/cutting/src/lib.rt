@@ -9,7 +9,7 @@ ghost use Rattle.meaning.specs.Words.Found.{Stuck};
 ghost use Rattle.table.specs.Table.{lent};
 ghost use Rattle.cutting.specs.Steps.{firstBy};
 ghost use Rattle.cutting.specs.Dead.{dead, deadOf};
-ghost use Rattle.cutting.specs.Turns.{Walkable, Ready, next, halted, stepOf, firstStepOf};
+ghost use Rattle.cutting.specs.Turns.{Walkable, Ready, Ran, next, halted, stepOf, firstStepOf};
 ghost use Rattle.cutting.specs.Promises.{CutsInto, CutsWords};
 use number::Refusal;
 use number::limits::BYTES;
@@ -44,6 +44,12 @@ struct Place {
     pub dead: usize,
 }
 
+// Where the bytes that stay in a state end, and the state that the byte there leads to: the dead one where the text ends.
+struct Run {
+    pub end: usize,
+    pub then: usize,
+}
+
 // One step of a cut: a word to store and the place after it, or the cut's answer.
 struct Step {
     pub go: bool,
@@ -52,7 +58,8 @@ struct Step {
     pub end: Ended,
 }
 
-// A state has no label, and no byte leads out of it.
+// A state has no label, and no byte leads out of it. Most states are told by their first target; where that leads back, all others are
+// compared with it, many at a time.
 fn is_dead<'a>(labels: &'a [u8], targets: &'a [u8], state: usize) -> bool
     requires { ⌜ (state < length (now labels)) × (state * bytes + bytes ≤ length (now targets)) ⌝ }
     ensures { λ r. ⌜ r ≡ dead (now (labels .entry)) (now (targets .entry)) state ⌝ }
@@ -60,14 +67,20 @@ fn is_dead<'a>(labels: &'a [u8], targets: &'a [u8], state: usize) -> bool
     if labels[state] != 0 {
         return false;
     }
+    let row = state * BYTES;
+    let first = targets[row];
+    if first as usize != state {
+        return false;
+    }
+    let mut stays = true;
     let mut c: usize = 0;
     while c < BYTES {
-        if targets[state * BYTES + c] as usize != state {
-            return false;
+        if targets[row + c] != first {
+            stays = false;
         }
         c += 1;
     }
-    true
+    stays
 }
 
 // The first dead state, or the count of states where there is none.
@@ -96,8 +109,26 @@ fn best_word(at: usize, best: usize, label: usize) -> Next
     Next::Word(best - at, label - 1)
 }
 
-// Walks the text once from a place on and keeps the last labelled place.
+// Goes over the bytes that stay in a state. Each target is compared with the state at hand, so that no load waits for the one before.
+fn run_from<'a>(targets: &'a [u8], text: &'a [u8], state: usize, from: usize, dead: usize) -> Run
+    requires { ⌜ (state * bytes + bytes ≤ length (now targets)) × (from ≤ length (now text)) ⌝ }
+    ensures { λ r. ⌜ Ran (now (targets .entry)) (now (text .entry)) state from dead r ⌝ }
+{
+    let row = state * BYTES;
+    let mut i = from;
+    while i < text.len() {
+        let then = targets[row + text[i] as usize] as usize;
+        if then != state {
+            return Run { end: i, then: then };
+        }
+        i += 1;
+    }
+    Run { end: i, then: dead }
+}
+
+// Walks the text once from a place on, run by run, and keeps the last labelled place.
 // No label can follow the dead state: the walk stops there, so that a word costs its own length and what is read past it.
+// A word that ends in a labelled state is told by a branch of its own, so that the next one need not wait for what was kept.
 fn next_word<'a>(
     count: usize,
     labels: &'a [u8],
@@ -109,23 +140,32 @@ fn next_word<'a>(
     requires { ⌜ Ready count (now labels) (now targets) dead ⌝ }
     ensures { λ r. ⌜ next r ≡ firstBy (lent count (now (labels .entry)) (now (targets .entry))) (drop at (now (text .entry))) ⌝ }
 {
-    let mut state: usize = 0;
-    let mut i = at;
+    if text.len() <= at {
+        return Next::None;
+    }
+    let mut state = targets[text[at] as usize] as usize;
+    if state == dead {
+        return Next::None;
+    }
+    let mut end = at;
     let mut best = at;
     let mut label: usize = 0;
-    while i < text.len() {
-        state = targets[state * BYTES + text[i] as usize] as usize;
-        if state == dead {
-            return best_word(at, best, label);
-        }
-        i += 1;
+    loop {
+        let ran = run_from(targets, text, state, end + 1, dead);
+        end = ran.end;
         let l = labels[state] as usize;
+        if ran.then == dead {
+            if l == 0 {
+                return best_word(at, best, label);
+            }
+            return best_word(at, end, l);
+        }
         if l != 0 {
-            best = i;
+            best = end;
             label = l;
         }
+        state = ran.then;
     }
-    best_word(at, best, label)
 }
 
 // A step that stops a cut.

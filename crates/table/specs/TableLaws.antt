@@ -1,12 +1,12 @@
 -- Laws of a well formed table, one for each return of the code that tests one.
--- The code goes over cells from the front; what is left to test is a slice of the list.
+-- The code goes over cells from the front and keeps the largest; what is left to test is a slice of the list.
 use Prim.Native.Nat.{ℕ, _+_, _*_, _≤_, _<_}
 use native.Mathlib.Numerals.{add-one}
 use native.Mathlib.Omega.{arith}
 use mathlib.Core.Path.{_≡_, refl, sym, ap}
 use mathlib.Core.Bool.{Bool, true, false, _&&_}
 use mathlib.Core.List.{List, _∷_}
-use borrow.Author.Tests.{lt-ltb, le-ltb, le-leb, lt-leb}
+use borrow.Author.Tests.{ltb-true, lt-ltb, le-leb, lt-leb}
 use lib.Dec.{leb, ltb, leb·suc-suc}
 use lib.ListN.{length, getD, take, length-take}
 use lib.Seq.{slice, slice-cons, slice-empty}
@@ -20,18 +20,46 @@ all-cons : (test : ℕ → Bool) (x : ℕ) (xs : List ℕ) → all test (x ∷ x
 unfolding all
 all-cons test x xs = refl
 
-module _ (limit : ℕ) (cells : List ℕ) (i end : ℕ) where
-  pub below-more : i < end → end ≤ length cells → getD cells i 0 < limit
-      → all (λ (x : ℕ). ltb x limit) (slice i end cells) ≡ all (λ (x : ℕ). ltb x limit) (slice (i + 1) end cells)
-  below-more h k l =
-      rw (add-one, slice-cons i end cells 0 h k, all-cons) (simp (lt-ltb _ _ l))
+-- of two numbers the larger is tested for both
+pub second-larger : (a b limit : ℕ) (rest : Bool) → a ≤ b → ltb a limit && (ltb b limit && rest) ≡ ltb b limit && rest
+second-larger a b limit rest h = go (ltb b limit) refl
+  where
+    none : (x : Bool) → x && false ≡ false
+    none true = refl
+    none false = refl
 
-  pub below-fails : i < end → end ≤ length cells → limit ≤ getD cells i 0 → false ≡ all (λ (x : ℕ). ltb x limit) (slice i end cells)
-  below-fails h k l = rw (slice-cons i end cells 0 h k, all-cons) (simp (le-ltb _ _ l))
+    go : (t : Bool) → ltb b limit ≡ t → ltb a limit && (t && rest) ≡ t && rest
+    go true e = simp (lt-ltb a limit (omega (arith, ltb-true b limit e)))
+    go false e = none (ltb a limit)
 
-pub below-end : (limit : ℕ) (cells : List ℕ) (i end : ℕ) → i ≡ end → all (λ (x : ℕ). ltb x limit) (slice i end cells) ≡ true
-unfolding all
-below-end limit cells i end e = rw (e, slice-empty)
+pub first-larger : (a b limit : ℕ) (rest : Bool) → b ≤ a → ltb a limit && (ltb b limit && rest) ≡ ltb a limit && rest
+first-larger a b limit rest h = go (ltb a limit) refl
+  where
+    go : (t : Bool) → ltb a limit ≡ t → t && (ltb b limit && rest) ≡ t && rest
+    go true e = simp (lt-ltb b limit (omega (arith, ltb-true a limit e)))
+    go false e = refl
+
+module _ (limit : ℕ) (cells : List ℕ) where
+  pub below-next : (i end : ℕ) → i < end → end ≤ length cells
+      → all (λ (x : ℕ). ltb x limit) (slice i end cells) ≡ ltb (getD cells i 0) limit && all (λ (x : ℕ). ltb x limit) (slice (i + 1) end cells)
+  below-next i end h k = rw (add-one, slice-cons i end cells 0 h k, all-cons) refl
+
+  pub below-over : (i end : ℕ) → i ≡ end → all (λ (x : ℕ). ltb x limit) (slice i end cells) ≡ true
+  unfolding all
+  below-over i end e = rw (e, slice-empty)
+
+  -- where there is a cell, 0 may be tested with the others
+  pub below-some : (end : ℕ) → 0 < end → end ≤ length cells
+      → all (λ (x : ℕ). ltb x limit) (take end cells) ≡ ltb 0 limit && all (λ (x : ℕ). ltb x limit) (slice 0 end cells)
+  below-some end h k = rw (below-next 0 end h k) (sym (second-larger 0 (getD cells 0 0) limit _ (omega arith)))
+
+  -- the largest number so far is tested for all before i
+  pub below-all : (most i end : ℕ) → i ≡ end → ltb most limit && all (λ (x : ℕ). ltb x limit) (slice i end cells) ≡ ltb most limit
+  below-all most i end e = rw (below-over i end e) (go (ltb most limit))
+    where
+      go : (t : Bool) → t && true ≡ t
+      go true = refl
+      go false = refl
 
 -- ---- the six tests of a well formed table, in their order
 

@@ -40,19 +40,24 @@ pub fn fill(cells: &mut [u8], from: usize, end: usize, value: u8)
     }
 }
 
-// Each of the first cells is below a limit.
+// Each of the first cells is below a limit. All are looked at and only the largest is tested, so that many are compared at a time.
 fn all_below(cells: &[u8], end: usize, limit: usize) -> bool
     requires { ⌜ end ≤ length (now cells) ⌝ }
     ensures { λ r. ⌜ r ≡ all (λ (x : ℕ). ltb x limit) (take end (now (cells .entry))) ⌝ }
 {
+    if end == 0 {
+        return true;
+    }
+    let mut most: u8 = 0;
     let mut i = 0;
     while i < end {
-        if limit <= cells[i] as usize {
-            return false;
+        let cell = cells[i];
+        if most < cell {
+            most = cell;
         }
         i += 1;
     }
-    true
+    (most as usize) < limit
 }
 
 // Lent memory holds a table of `count` states.
