@@ -1,4 +1,4 @@
--- A byte fits a number, as a cell does that is read and cast.
+-- A number that fits a byte fits a machine word: for cells that are read and cast.
 -- Assumes nothing.
 use Prim.Native.Nat.{ℕ}
 use native.Mathlib.Omega.{arith}

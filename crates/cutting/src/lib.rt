@@ -58,8 +58,8 @@ struct Step {
     pub end: Ended,
 }
 
-// A state has no label, and no byte leads out of it. Most states are told by their first target; where that leads back, all others are
-// compared with it, many at a time.
+// A state has no label, and no byte leads out of it. Where the first target leads elsewhere it tells that alone; where it leads back, all
+// others are compared with it, many at a time.
 fn is_dead<'a>(labels: &'a [u8], targets: &'a [u8], state: usize) -> bool
     requires { ⌜ (state < length (now labels)) × (state * bytes + bytes ≤ length (now targets)) ⌝ }
     ensures { λ r. ⌜ r ≡ dead (now (labels .entry)) (now (targets .entry)) state ⌝ }

@@ -6,7 +6,6 @@ use native.Mathlib.Decide.{decLt}
 use mathlib.Core.Path.{_≡_, refl}
 use borrow.Author.Needs.{needs}
 use lib.ListN.{length}
-use Rattle.number.specs.Limits.{bytes}
 use Rattle.cutting.specs.Turns.{led}
 use Rattle.cutting.proofs.Byte.{wide}
 use Rattle.cutting.proofs.run_from.Statement.{statement}
