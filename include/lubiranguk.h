@@ -125,13 +125,15 @@ size_t lubi_write_sheet(size_t count, const uint8_t *labels, size_t labels_lengt
    starts and no record is free (Full). After Full, cut on from that place.
    Refuses LUBI_LOADED, where the table is not well formed; the records are unchanged.
 
-   WHAT A CALL COSTS, AND HOW TO CALL IT WELL. Each call tests the whole table before the first byte, since nothing else can know that it
-   is one: count * 256 cells, many at a time. On the machine of docs/SPEED.md that is a call's price of 0.07 microseconds with 7 states, 0.7
-   with 98 and 2 with 255; a byte then costs from 0.8 to some 4 nanoseconds. The price is paid once a call, however long the text is:
+   WHAT A CALL COSTS, AND HOW TO CALL IT WELL. Lent memory may hold anything, so each call tests the whole table before the first byte,
+   count labels and count * 256 targets, many at a time. By docs/SPEED.md, with the library compiled for an Arm machine, that took 0.07
+   microseconds with 7 states, 0.7 with 98 and 2 with 255, and somewhat more than twice that with tables made to be slow; then a byte of
+   the texts there took 0.8 to 4.4 nanoseconds. Rules that must look far past a word cost more. The test is paid once a call, however long
+   the text is:
      - give a text whole, or as many lines at a time as there are, and not a word at a time;
-     - give room for many records, a record for every byte at most. With room for one, every word pays the test;
+     - give room for many records; one for every byte is always enough. With room for one, every word pays the test;
      - after Full, cut on with the same text and `at` at the place that was told.
-   After Stuck a caller who goes on past the place pays it again. Where a user wants every text cut to its end, a last rule for any byte
+   A caller who goes on past the place after Stuck pays it again. Where a user wants every text cut to its end, a last rule for any byte
    avoids Stuck: typed as `.` on the last line, it matches one byte, and since longer words and earlier rules come first it takes just the
    bytes at which no other rule has a word. */
 size_t lubi_cut_from(size_t count, const uint8_t *labels, size_t labels_length, const uint8_t *targets, size_t targets_length,

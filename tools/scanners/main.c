@@ -1,7 +1,5 @@
-/* Measures lubi_cut_from against other bodies that cut by the same rules: all cut the same text in turns, and must leave the same records.
-   Usage: speed TEXT whole|lines BYTES ROUNDS TABLE, or speed empty TABLE ROUNDS; a table is a book's path or a number of states, and then
-   its bytes lead anywhere. A line of a table comes out; without arguments its head does.
-   WITH_SCANNERS: flex and re2c made scanners of the book's rules; WITH_BEFORE: another build of the library is there to compare with. */
+/* Measures lubi_cut_from beside other bodies that cut by the same rules: all cut the same text in turns, and must leave the same records.
+   With WITH_SCANNERS those of flex and re2c are there, with WITH_BEFORE the cut of another build of the library. */
 #include <stdio.h>
 #include <stdlib.h>
 #include <string.h>
@@ -10,6 +8,7 @@
 #include "scanners.h"
 
 static size_t count, dead;
+static int scattered;
 static uint8_t labels[LUBI_STATES], targets[LUBI_TARGETS];
 
 static void stop(const char *why)
@@ -53,11 +52,17 @@ static int keeps_all(size_t state)
 /* A table of so many states where a number is given, else that of a book; and its dead state, which the plain loop is told. */
 static void table(const char *from)
 {
-    count = strtoull(from, 0, 10);
-    if (count == 0)
-        build(from);
-    else
+    long states = strtol(from, 0, 10);
+    if (states > LUBI_STATES || states < -LUBI_STATES)
+        stop("too many states");
+    count = (size_t)labs(states);
+    scattered = states > 0;
+    if (states > 0)
         scatter(count, labels, targets);
+    else if (states < 0)
+        lead_back(count, labels, targets);
+    else
+        build(from);
     for (dead = 0; dead < count && !keeps_all(dead);)
         dead++;
 }
@@ -118,6 +123,18 @@ enum { BODIES = sizeof bodies / sizeof *bodies };
 
 static char *laid;
 static size_t pieces, *sizes, total;
+
+/* Where bytes lead anywhere a text is one word up to its last labelled place. The rest is left out: no word need start there. */
+static size_t one_word(const char *text, size_t length)
+{
+    size_t state = 0, last = 0;
+    for (size_t i = 0; i < length; i++) {
+        state = targets[state * 256 + (uint8_t)text[i]];
+        if (labels[state] != 0)
+            last = i + 1;
+    }
+    return last;
+}
 
 /* A line ends behind a newline; where a text has none, behind a space when it has 40 bytes. */
 static size_t line_end(const char *text, size_t length, int newlines, size_t from)
@@ -188,7 +205,9 @@ static size_t measure(int rounds, double best[BODIES])
 static void empty(int rounds)
 {
     static char none[2];
-    size_t record[LUBI_RECORD];
+    size_t record[LUBI_RECORD], answer[LUBI_ANSWER];
+    if (lubi_cut_from(count, labels, sizeof labels, targets, sizeof targets, (const uint8_t *)none, 0, 0, record, 0, answer) != LUBI_GIVEN)
+        stop("the table is refused");
     printf("| %zu |", count);
     for (int b = 0; b < BODIES; b++) {
         double best = 0;
@@ -222,7 +241,8 @@ static void cut_text(const char *name, int by_lines, size_t room, int rounds)
     char *text = malloc(room + 1);
     if (text == 0)
         stop("no room");
-    lay(text, make_text(name, text, room), by_lines);
+    size_t length = make_text(name, text, room);
+    lay(text, scattered ? one_word(text, length) : length, by_lines);
     if (total == 0 || rounds < 1)
         stop("no such text, or no round");
     double best[BODIES];
@@ -234,6 +254,8 @@ static void cut_text(const char *name, int by_lines, size_t room, int rounds)
     free(text);
 }
 
+/* speed TEXT whole|lines BYTES ROUNDS TABLE, or speed empty TABLE ROUNDS, prints a line of a table; without arguments it prints the heads.
+   TABLE is a book's path, or a number of states whose bytes lead anywhere, or, below 0, of states that all bytes but one lead back to. */
 int main(int argc, char **argv)
 {
     if (argc == 1) {

@@ -4,6 +4,7 @@
 
 size_t make_text(const char *name, char *to, size_t room);
 void scatter(size_t count, uint8_t *labels, uint8_t *targets);
+void lead_back(size_t count, uint8_t *labels, uint8_t *targets);
 
 size_t plain_loop(const uint8_t *labels, const uint8_t *targets, size_t dead, const uint8_t *text, size_t length, size_t *cells);
 size_t scan_packed(char *text, size_t length, size_t *cells);

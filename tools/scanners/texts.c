@@ -1,5 +1,5 @@
 /* Texts and tables that cutting is measured on, made by a fixed row of dice, so that every run has the same.
-   A text is made part by part, as many as fit; each grammar's texts hold nothing that its rules do not match. */
+   A text is made part by part, as many as fit; those of a grammar hold nothing that its rules do not match. */
 #include <string.h>
 
 #include "scanners.h"
@@ -163,4 +163,14 @@ void scatter(size_t count, uint8_t *labels, uint8_t *targets)
         labels[s] = dice(4) == 0 ? (uint8_t)(1 + dice(LUBI_RULES)) : 0;
     for (size_t c = 0; c < count * 256; c++)
         targets[c] = (uint8_t)dice((uint32_t)count);
+}
+
+/* No state has a label, and all bytes but the last lead back to their state: the search for a dead state is as long as it can be. */
+void lead_back(size_t count, uint8_t *labels, uint8_t *targets)
+{
+    memset(labels, 0, count);
+    for (size_t s = 0; s < count; s++) {
+        memset(targets + s * 256, (int)s, 255);
+        targets[s * 256 + 255] = (uint8_t)((s + 1) % count);
+    }
 }

@@ -21,14 +21,17 @@ class Line:
     def sees(self, mark):
         return self.text[self.at:self.at + 1] == mark
 
+    def stop(self, why):
+        sys.exit(f'words.py: {why} at {self.at} of {self.text}')
+
     def byte(self):
-        m = re.match(r'\\x([0-9a-f]{2})|\\(.)|(.)', self.text[self.at:])
+        m = re.match(r'\\x([0-9a-f]{2})|\\([ntr]|\W)|([^\\])', self.text[self.at:]) or self.stop('no byte')
         self.at += m.end()
         return int(m[1], 16) if m[1] else ESCAPES.get(m[2], ord(m[2])) if m[2] else ord(m[3])
 
     def skip(self, mark):
         if not self.sees(mark):
-            sys.exit(f'words.py: no {mark} at {self.at} of {self.text}')
+            self.stop(f'no {mark}')
         self.at += 1
 
     def quoted(self):
@@ -55,9 +58,9 @@ class Line:
         return nodes
 
     def item(self):
-        mark = self.text[self.at]
+        opened = self.text[self.at:self.at + 1]
+        inside, close = {'"': (self.quoted, '"'), '[': (self.members, ']'), '(': (self.choice, ')')}.get(opened) or self.stop('no item')
         self.at += 1
-        inside, close = {'"': (self.quoted, '"'), '[': (self.members, ']'), '(': (self.choice, ')')}[mark]
         nodes = inside()
         self.skip(close)
         while self.at < len(self.text) and self.text[self.at] in '*+?':
@@ -72,6 +75,10 @@ class Line:
             nodes += self.item() + [node(CAT)]
         return nodes
 
+    def whole(self):
+        nodes = self.choice()
+        return nodes if self.at == len(self.text) else self.stop('more than an expression')
+
     def choice(self):
         nodes = self.sequence()
         while self.sees('|'):
@@ -85,29 +92,29 @@ def node(*numbers):
 
 
 def book(lines):
-    rules = [Line(line).choice() for line in lines]
+    rules = [Line(line).whole() for line in lines]
     return number(1) + number(len(rules)) + b''.join(number(k) + number(len(r)) + b''.join(r) for k, r in enumerate(rules))
 
 
 FLEX = '''%option 8bit never-interactive noyywrap nodefault nounput noinput
 %{{
 #include <stddef.h>
-static size_t at, *cell;
+#define YY_DECL static size_t scan(size_t *cells)
 #define WORD(rule) cell[0] = at, cell[1] = (size_t)yyleng, cell[2] = rule, cell += 3, at += (size_t)yyleng
 %}}
 %%
+    size_t at = 0, *cell = cells;
 {rules}
-.|\\n return 1;
+.|\\n return 0;
+<<EOF>> return (size_t)(cell - cells) / 3;
 %%
 /* The text ends in two bytes 0, as flex asks. */
 size_t NAME(char *text, size_t length, size_t *cells)
 {{
     YY_BUFFER_STATE buffer = yy_scan_buffer(text, length + 2);
-    at = 0;
-    cell = cells;
-    int stuck = yylex();
+    size_t words = scan(cells);
     yy_delete_buffer(buffer);
-    return stuck ? 0 : (size_t)(cell - cells) / 3;
+    return words;
 }}
 '''
 
