@@ -93,8 +93,8 @@ module _ (count : ℕ) (labels targets : List ℕ) (text : Text) (at : ℕ) wher
     unfolding scan
     found-over state i best h = rw (drop-of-length-le text h) refl
 
-    found-dead : (state i : ℕ) (best : Found) → state < count → state ≡ deadOf count labels targets → found state i (better (i - at) (getD labels state 0) best) ≡ best
-    found-dead state i best inside e =
+    found-in-dead : (state i : ℕ) (best : Found) → state < count → state ≡ deadOf count labels targets → found state i (better (i - at) (getD labels state 0) best) ≡ best
+    found-in-dead state i best inside e =
         let d : Dead labels targets state = subst (Dead labels targets) (sym e) (dead-of labels targets count (omega (arith, e))) in
         let stays : (c : ℕ) → c < bytes → stepIn (lent count labels targets) state c ≡ state =
         λ c k. getD-take (count * bytes) targets (state * bytes + c) 0 (omega arith) ∙ d .stays c k in
@@ -123,7 +123,7 @@ module _ (count : ℕ) (labels targets : List ℕ) (text : Text) (at : ℕ) wher
 
     pub along-dead : {state i : ℕ} {best : Found} → Along state i best → state ≡ deadOf count labels targets
         → best ≡ firstBy (lent count labels targets) (drop at text)
-    along-dead {state} {i} {best} a e = sym (found-dead state i best (a .inside) e) ∙ a .whole
+    along-dead {state} {i} {best} a e = sym (found-in-dead state i best (a .inside) e) ∙ a .whole
 
     -- ---- a run, and what comes after it
 
@@ -162,7 +162,7 @@ module _ (count : ℕ) (labels targets : List ℕ) (text : Text) (at : ℕ) wher
             | yes h ↦
                 let t = led targets text state (r .end) in
                 let more = one-more state (r .end) (b .inside) (b .onward) h last in
-                let none = found-dead t (r .end + 1) last (led-in state (r .end) (b .inside)) (sym (ran .leaves h .0) ∙ e ∙ first) in
+                let none = found-in-dead t (r .end + 1) last (led-in state (r .end) (b .inside)) (sym (ran .leaves h .0) ∙ e ∙ first) in
                 sym none ∙ sym more ∙ b .whole
             | no h ↦ sym (found-over state (r .end) last (omega arith)) ∙ b .whole
           ]

@@ -6,7 +6,7 @@ use native.Mathlib.Omega.{arith}
 use mathlib.Core.Path.{_≡_, refl, sym, ap}
 use mathlib.Core.Bool.{Bool, true, false, _&&_}
 use mathlib.Core.List.{List, _∷_}
-use borrow.Author.Tests.{ltb-true, lt-ltb, le-leb, lt-leb}
+use borrow.Author.Tests.{ltb-true, ltb-false, lt-ltb, le-ltb, le-leb, lt-leb}
 use lib.Dec.{leb, ltb, leb·suc-suc}
 use lib.ListN.{length, getD, take, length-take}
 use lib.Seq.{slice, slice-cons, slice-empty}
@@ -22,15 +22,11 @@ all-cons test x xs = refl
 
 -- of two numbers the larger is tested for both
 pub second-larger : (a b limit : ℕ) (rest : Bool) → a ≤ b → ltb a limit && (ltb b limit && rest) ≡ ltb b limit && rest
-second-larger a b limit rest h = go (ltb b limit) refl
+second-larger a b limit rest h = go (ltb a limit) refl
   where
-    none : (x : Bool) → x && false ≡ false
-    none true = refl
-    none false = refl
-
-    go : (t : Bool) → ltb b limit ≡ t → ltb a limit && (t && rest) ≡ t && rest
-    go true e = simp (lt-ltb a limit (omega (arith, ltb-true b limit e)))
-    go false e = none (ltb a limit)
+    go : (t : Bool) → ltb a limit ≡ t → t && (ltb b limit && rest) ≡ ltb b limit && rest
+    go true e = refl
+    go false e = simp (le-ltb b limit (omega (arith, ltb-false a limit e)))
 
 pub first-larger : (a b limit : ℕ) (rest : Bool) → b ≤ a → ltb a limit && (ltb b limit && rest) ≡ ltb a limit && rest
 first-larger a b limit rest h = go (ltb a limit) refl
