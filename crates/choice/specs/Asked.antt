@@ -11,7 +11,7 @@ use Rattle.meaning.specs.Normal.{gathered, alt}
 use Rattle.meaning.specs.Limited.{short}
 use Rattle.meaning.specs.Shape.{InShape}
 use Rattle.term.specs.Cells.{term, Sound}
-use Rattle.term.specs.Area.{Room}
+use Rattle.term.specs.Area.{pending, Room}
 
 -- the members of a choice
 abbrev pub members : Re → ℕ
@@ -34,9 +34,10 @@ pub record Choices (s : List ℕ) (top a b : ℕ) : Type 0 where
   pub right-shape : InShape (term s b)
   pub room : Room s top (members (term s a) + members (term s b))
 
--- each of which fits
+-- each of which fits, with room to count what comes of them
 pub record ShortChoices (s : List ℕ) (top a b : ℕ) : Type 0 where
   pub choices : Choices s top a b
+  pub count-room : Room s top (members (term s a) + members (term s b) + pending)
   pub left-short : short (term s a) ≡ true
   pub right-short : short (term s b) ≡ true
 

@@ -13,10 +13,14 @@ use Rattle.meaning.specs.ShapeLaws.{alt-united, alt-members, alt-nothing-left, 
 use Rattle.meaning.specs.Tests.{is-nothing}
 use Rattle.term.specs.Cells.{term, Sound}
 use Rattle.term.specs.Area.{Makes}
+use Rattle.term.specs.Counts.{Countable}
 use Rattle.term.specs.CellLaws.{sound-less, grown-term, makes-old, makes-more, makes-as, makes-after}
+use Rattle.normal.specs.declared.Built.{Built}
+use Rattle.normal.specs.AnswerLaws.{made-counts}
 use Rattle.choice.specs.declared.Merge.{Merge}
 use Rattle.choice.specs.declared.Merge.the-variants.{Whole, Pair, More}
-use Rattle.choice.specs.Asked.{members, altCells, Choices, Meets, Unites}
+use Rattle.choice.specs.Asked.{members, altCells, Choices, ShortChoices, Meets, Unites}
+use Rattle.choice.specs.Builds.{Alts}
 use Rattle.choice.specs.Merge.{Stands, Pairs, Leads, Goes}
 use Rattle.choice.specs.NodeLaws.{members-some, members-alt}
 
@@ -142,6 +146,11 @@ alt-few a b s t = go (isNothing a || isNothing b) (alt-members a b s t)
     go : (n : Bool) → members (alt a b) ≤ members a + members b → cond n 0 (members (alt a b) - 1) ≤ members a + members b - 1
     go true h = omega arith
     go false h = omega arith
+
+pub alt-counts : {s : List ℕ} {top a b : ℕ} → ShortChoices s top a b → {s′ : List ℕ} {made : Built} → Alts s top a b s′ made
+    → Countable s′ (made .top) (made .root)
+alt-counts {s} {top} {a} {b} l m =
+    made-counts m (omega (arith, l .count-room, alt-few (term s a) (term s b) (l .choices .left-shape) (l .choices .right-shape)))
 
 pub alt-idle-left : (a b : Re) → isNothing a ≡ true → altCells a b ≡ 0
 unfolding altCells

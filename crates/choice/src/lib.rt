@@ -13,7 +13,6 @@ use term::Term;
 use term::compare_terms;
 use term::first_of;
 use term::is_nothing;
-use term::is_short;
 use term::kind_of;
 use term::node_at;
 use term::second_of;
@@ -88,7 +87,7 @@ fn unite(cells: &mut [u64], top: usize, a: usize, b: usize) -> Built
 }
 
 // The choice of two terms: Nothing on a side gives the other side, all else the merge.
-fn alt(cells: &mut [u64], top: usize, a: usize, b: usize) -> Built
+pub fn alt(cells: &mut [u64], top: usize, a: usize, b: usize) -> Built
     requires { ⌜ Choices (now cells) top a b ⌝ }
     ensures { λ r. ⌜ Alts (now (cells .entry)) top a b (now (cells .exit)) r ⌝ }
 {
@@ -103,20 +102,7 @@ fn alt(cells: &mut [u64], top: usize, a: usize, b: usize) -> Built
     unite(cells, top, a, b)
 }
 
-// alt with the limit: a result of too many nodes is Long.
-pub fn alt_fit(cells: &mut [u64], top: usize, a: usize, b: usize) -> Made
-    requires { ⌜ Choices (now cells) top a b ⌝ }
-    ensures { λ r. ⌜ AltFits (now (cells .entry)) top a b (now (cells .exit)) r ⌝ }
-{
-    let chosen = alt(cells, top, a, b);
-    if is_short(cells, chosen.root) {
-        Made::Term(chosen.root, chosen.top)
-    } else {
-        Made::Long
-    }
-}
-
-// The choice of two terms that fit: with Nothing on a side the other is the answer, and needs no counting.
+// The choice of two terms that fit, with the limit: with Nothing on a side the other is the answer, and needs no counting.
 pub fn alt_short(cells: &mut [u64], top: usize, a: usize, b: usize) -> Made
     requires { ⌜ ShortChoices (now cells) top a b ⌝ }
     ensures { λ r. ⌜ AltFits (now (cells .entry)) top a b (now (cells .exit)) r ⌝ }
@@ -129,5 +115,6 @@ pub fn alt_short(cells: &mut [u64], top: usize, a: usize, b: usize) -> Made
     if is_nothing(y) {
         return Made::Term(a, top);
     }
-    alt_fit(cells, top, a, b)
+    let made = alt(cells, top, a, b);
+    normal::fit(cells, made)
 }

@@ -22,14 +22,14 @@ use Rattle.meaning.specs.SizeLaws.{spine, size-some, short-size, short-members,
 use Rattle.term.specs.declared.Term.{Term}
 use Rattle.term.specs.declared.Term.the-variants.{Nothing, Empty, Range, Cat, Alt, Star}
 use Rattle.term.specs.Cells.{grow, term, Below, Sound}
-use Rattle.term.specs.Area.{Room, Grown}
+use Rattle.term.specs.Area.{pending, GrownFree, Room}
 use Rattle.term.specs.Nodes.{kindOf, firstOf, Found}
 use Rattle.term.specs.CellLaws.{sound-less, grown-refl, grown-trans, grown-term}
 use Rattle.term.specs.ReadLaws.{first-below, first-size, cat-size, alt-size, star-size}
 use Rattle.normal.specs.declared.Made.{Made}
 use Rattle.normal.specs.declared.Made.the-variants.{Term as Made·term, Long as Made·long}
 use Rattle.normal.specs.Made.{MadeBy}
-use Rattle.normal.specs.Asked.{catCells, Links}
+use Rattle.normal.specs.Asked.{catCells, CountedLinks}
 use Rattle.normal.specs.ChainLaws.{cat-few, cat-idle-left}
 use Rattle.normal.specs.AnswerLaws.{Got, long-is, made-term, made-after, long-after}
 use Rattle.choice.specs.Asked.{members, mostMembers, altCells, ShortChoices}
@@ -217,7 +217,7 @@ part-short : (r x : Re) → short r ≡ true → size x ≤ size r → short x �
 part-short r x e h = le-leb (size x) treeNodes (omega (arith, short-size r e))
 
 -- cells as they are counted
-room-of : (r : Re) (n : ℕ) → size r ≡ n → derivRoom r ≡ (mostMembers + 1) * n
+room-of : (r : Re) (n : ℕ) → size r ≡ n → derivRoom r ≡ (mostMembers + 1) * n + pending
 unfolding derivRoom
 room-of r n e = rw e
 
@@ -225,14 +225,14 @@ cells-of : (r : Re) (n : ℕ) → size r ≡ n → derivCells r ≡ (mostMembers
 unfolding derivCells
 cells-of r n e = rw e
 
-room-size : (r : Re) → derivRoom r ≡ (mostMembers + 1) * size r
+room-size : (r : Re) → derivRoom r ≡ (mostMembers + 1) * size r + pending
 room-size r = room-of r (size r) refl
 
 cells-size : (r : Re) → derivCells r ≡ (mostMembers + 1) * size r - mostMembers
 cells-size r = cells-of r (size r) refl
 
--- a term's room is mostMembers more than its cells, and these are more than those of its parts together
-room-cells : (r : Re) → derivRoom r ≡ derivCells r + mostMembers
+-- a term's room is its cells, mostMembers and those that counting may use; and its cells are more than those of its parts together
+room-cells : (r : Re) → derivRoom r ≡ derivCells r + mostMembers + pending
 room-cells r = omega (arith, room-size r, cells-size r, size-some r)
 
 cells-some : (r : Re) → 1 ≤ derivCells r
@@ -246,7 +246,7 @@ two-cells r x y e = omega (arith, cells-size r, cells-size x, cells-size y, size
 
 -- two derivatives that fit, to choose from
 short-choices : {s : List ℕ} {top a b : ℕ} (x y : Re) → Sound s top → a < top → b < top → term s a ≡ x → term s b ≡ y → InShape x → InShape y
-    → short x ≡ true → short y ≡ true → Room s top (2 * mostMembers) → ShortChoices s top a b
+    → short x ≡ true → short y ≡ true → Room s top (2 * mostMembers + pending) → ShortChoices s top a b
 short-choices x y ok h k p q t u v w m =
     record {
       choices = record {
@@ -257,13 +257,14 @@ short-choices x y ok h k p q t u v w m =
         right-shape = rw q u;
         room = omega (arith, m, ap members p, ap members q, short-members x v, short-members y w);
       };
+      count-room = omega (arith, m, ap members p, ap members q, short-members x v, short-members y w);
       left-short = rw p v;
       right-short = rw q w;
     }
 
 module _ {s : List ℕ} {top i : ℕ} (d : Derives s top i) where
   -- a part, after some growth
-  later : {s′ : List ℕ} {top′ : ℕ} (used a : ℕ) → Grown s top s′ top′ → top′ ≤ top + used → a < i → InShape (term s a)
+  later : {s′ : List ℕ} {top′ : ℕ} (used a : ℕ) → GrownFree pending s top s′ top′ → top′ ≤ top + used → a < i → InShape (term s a)
       → size (term s a) ≤ size (term s i) → used + derivCells (term s a) ≤ derivCells (term s i) → Derives s′ top′ a
   later {s′} {top′} used a g h k t l m =
       let up = g .up in
@@ -328,22 +329,28 @@ module _ {s : List ℕ} {top i : ℕ} (d : Derives s top i) where
       b-stays : term s₁ b ≡ term s b
       b-stays = grown-term b (g .makes .grown) (d .sound) (omega (arith, f .below .1, d .held))
 
-      pub cat-middle : Links s₁ first da b
+      middle-room : Room s₁ first (spine (term s₁ da) + 1 + pending)
+      middle-room = omega (
+        arith,
+        ap spine (g .makes .is),
+        short-spine (g .value) da-short,
+        g .makes .few,
+        g .makes .grown .same-length,
+        d .room,
+        room-cells (term s i),
+        cat-cells,
+      )
+
+      pub cat-middle : CountedLinks s₁ first da b
       cat-middle =
           record {
-            sound = g .makes .grown .sound;
-            left = g .makes .within;
-            right = omega (arith, f .below .1, d .held, g .makes .grown .up);
-            room = omega (
-              arith,
-              ap spine (g .makes .is),
-              short-spine (g .value) da-short,
-              g .makes .few,
-              g .makes .grown .same-length,
-              d .room,
-              room-cells (term s i),
-              cat-cells,
-            );
+            links = record {
+              sound = g .makes .grown .sound;
+              left = g .makes .within;
+              right = omega (arith, f .below .1, d .held, g .makes .grown .up);
+              room = omega (arith, middle-room);
+            };
+            count-room = middle-room;
           }
 
       middle-is : fit (cat (term s₁ da) (term s₁ b)) ≡ fit (cat (g .value) (term s b))
@@ -378,7 +385,7 @@ module _ {s : List ℕ} {top i : ℕ} (d : Derives s top i) where
         left-shape : InShape (h .value)
         left-shape = rw left-is (shape-cat (g .value) (term s b) da-shape (cat-shape .1))
 
-        grown-2 : Grown s top s₂ second
+        grown-2 : GrownFree pending s top s₂ second
         grown-2 = grown-trans (g .makes .grown) (h .makes .grown)
 
         few-2 : second ≤ top + (derivCells (term s a) + catCells (g .value) (term s b))
@@ -551,22 +558,28 @@ module _ {s : List ℕ} {top i : ℕ} (d : Derives s top i) where
       part-is-short : short (g .value) ≡ true
       part-is-short = derived-short c (term s a) (g .value) (g .fits)
 
-      pub star-middle : Links s₁ first da i
+      star-room : Room s₁ first (spine (term s₁ da) + 1 + pending)
+      star-room = omega (
+        arith,
+        ap spine (g .makes .is),
+        short-spine (g .value) part-is-short,
+        g .makes .few,
+        g .makes .grown .same-length,
+        d .room,
+        room-cells (term s i),
+        star-cells,
+      )
+
+      pub star-middle : CountedLinks s₁ first da i
       star-middle =
           record {
-            sound = g .makes .grown .sound;
-            left = g .makes .within;
-            right = omega (arith, d .held, g .makes .grown .up);
-            room = omega (
-              arith,
-              ap spine (g .makes .is),
-              short-spine (g .value) part-is-short,
-              g .makes .few,
-              g .makes .grown .same-length,
-              d .room,
-              room-cells (term s i),
-              star-cells,
-            );
+            links = record {
+              sound = g .makes .grown .sound;
+              left = g .makes .within;
+              right = omega (arith, d .held, g .makes .grown .up);
+              room = omega (arith, star-room);
+            };
+            count-room = star-room;
           }
 
       star-stays : term s₁ i ≡ Re.Star (term s a)

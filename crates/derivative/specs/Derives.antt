@@ -11,13 +11,14 @@ use Rattle.meaning.specs.Shape.{InShape}
 use Rattle.term.specs.declared.Term.{Term}
 use Rattle.term.specs.declared.Term.the-variants.{Nothing, Empty, Range, Cat, Alt, Star}
 use Rattle.term.specs.Cells.{term, Sound}
-use Rattle.term.specs.Area.{Room}
+use Rattle.term.specs.Area.{pending, Room}
 use Rattle.normal.specs.declared.Made.{Made}
 use Rattle.normal.specs.Made.{MadeBy}
 use Rattle.choice.specs.Asked.{mostMembers}
 
+-- the cells that it asks for, with those for counting, and the cells that it uses
 unfoldable pub derivRoom : Re → ℕ
-derivRoom r = (mostMembers + 1) * size r
+derivRoom r = (mostMembers + 1) * size r + pending
 
 unfoldable pub derivCells : Re → ℕ
 derivCells r = (mostMembers + 1) * size r - mostMembers

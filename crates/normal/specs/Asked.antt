@@ -6,7 +6,7 @@ use mathlib.Core.List.{List}
 use Rattle.meaning.specs.Re.{Re, isNothing, isEmpty}
 use Rattle.meaning.specs.SizeLaws.{spine}
 use Rattle.term.specs.Cells.{term, Sound}
-use Rattle.term.specs.Area.{Room}
+use Rattle.term.specs.Area.{pending, Room}
 
 -- what cat answers without a new node
 abbrev pub plain : Re → Bool
@@ -22,3 +22,8 @@ pub record Links (s : List ℕ) (top a b : ℕ) : Type 0 where
   pub left : a < top
   pub right : b < top
   pub room : Room s top (spine (term s a) + 1)
+
+-- and with room to count what comes of it
+pub record CountedLinks (s : List ℕ) (top a b : ℕ) : Type 0 where
+  pub links : Links s top a b
+  pub count-room : Room s top (spine (term s a) + 1 + pending)

@@ -1,25 +1,28 @@
 -- What each builder leaves in the work area: the contracts' second half, one name a builder.
 -- A term in normal form is made of terms in normal form; nothing below the old top changes.
 use Prim.Native.Nat.{ℕ, _+_}
+use mathlib.Core.Path.{_≡_}
+use mathlib.Core.Bool.{cond}
 use mathlib.Core.List.{List}
 use Rattle.meaning.specs.Normal.{chain, cat, star}
-use Rattle.meaning.specs.Limited.{fit}
+use Rattle.meaning.specs.Limited.{short, fit}
 use Rattle.meaning.specs.Limited.Fit.{Fits}
 use Rattle.meaning.specs.SizeLaws.{spine}
-use Rattle.term.specs.declared.Term.{Term}
+use Rattle.term.specs.declared.Term.{Term as Node}
 use Rattle.term.specs.Cells.{grow, term}
-use Rattle.term.specs.Area.{Makes}
+use Rattle.term.specs.Area.{pending, Wasted, Makes}
 use Rattle.normal.specs.declared.Built.{Built}
 use Rattle.normal.specs.declared.Made.{Made}
+use Rattle.normal.specs.declared.Made.the-variants.{Term, Long}
 use Rattle.normal.specs.Asked.{catCells}
 use Rattle.normal.specs.Made.{MadeBy}
 
 -- a node is stored
-abbrev pub Stores : List ℕ → ℕ → Term → List ℕ → Built → Type 0
+abbrev pub Stores : List ℕ → ℕ → Node → List ℕ → Built → Type 0
 Stores s top u s′ r = Makes s top s′ (r .root) (r .top) (grow u (term s)) 1
 
 -- a node stored as an answer
-abbrev pub Leaf : List ℕ → ℕ → Term → List ℕ → Made → Type 0
+abbrev pub Leaf : List ℕ → ℕ → Node → List ℕ → Made → Type 0
 Leaf s top u s′ r = MadeBy s top s′ r (Fits (grow u (term s))) 1
 
 abbrev pub Chains : List ℕ → ℕ → ℕ → ℕ → List ℕ → Built → Type 0
@@ -30,6 +33,11 @@ Cats s top a b s′ r = Makes s top s′ (r .root) (r .top) (cat (term s a) (ter
 
 abbrev pub Stars : List ℕ → ℕ → ℕ → List ℕ → Built → Type 0
 Stars s top a s′ r = Makes s top s′ (r .root) (r .top) (star (term s a)) 1
+
+-- what was built is counted
+pub record Fitted (s : List ℕ) (made : Built) (s′ : List ℕ) (r : Made) : Type 0 where
+  pub is : r ≡ cond (short (term s (made .root))) (Term (made .root) (made .top)) Long
+  pub wasted : Wasted s (made .top) s′ (made .top + pending)
 
 -- cat with the limit
 abbrev pub CatFits : List ℕ → ℕ → ℕ → ℕ → List ℕ → Made → Type 0

@@ -16,9 +16,13 @@ use Rattle.term.specs.declared.Term.the-variants.{Nothing, Empty, Range, Cat, A
 use Rattle.term.specs.Cells.{grow, term, Sound}
 use Rattle.term.specs.Area.{Makes}
 use Rattle.term.specs.Nodes.{kindOf, Found}
+use Rattle.term.specs.Counts.{Countable}
 use Rattle.term.specs.CellLaws.{grown-term, makes-old, makes-more, makes-as, makes-after}
-use Rattle.normal.specs.Asked.{plain, catCells, Links}
+use Rattle.normal.specs.Asked.{plain, catCells, Links, CountedLinks}
 use Rattle.normal.specs.NodeLaws.{found-no-cat}
+use Rattle.normal.specs.declared.Built.{Built}
+use Rattle.normal.specs.Builds.{Cats}
+use Rattle.normal.specs.AnswerLaws.{made-counts}
 
 -- ---- chain
 
@@ -120,6 +124,10 @@ cat-few a b = go (plain a || plain b)
     go : (t : Bool) → cond t 0 (spine a + 1) ≤ spine a + 1
     go true = omega arith
     go false = omega arith
+
+pub cat-counts : {s : List ℕ} {top a b : ℕ} → CountedLinks s top a b → {s′ : List ℕ} {made : Built} → Cats s top a b s′ made
+    → Countable s′ (made .top) (made .root)
+cat-counts {s} {top} {a} {b} l m = made-counts m (omega (arith, l .count-room, cat-few (term s a) (term s b)))
 
 pub cat-idle-left : (a b : Re) → plain a ≡ true → catCells a b ≡ 0
 unfolding catCells

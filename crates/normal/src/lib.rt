@@ -3,8 +3,9 @@
 ghost use Prim.Native.Nat.{_<_};
 ghost use lib.ListN.{length};
 ghost use Rattle.term.specs.Cells.{Below, Sound};
-ghost use Rattle.normal.specs.Asked.{Links};
-ghost use Rattle.normal.specs.Builds.{Stores, Leaf, Chains, Cats, Stars, CatFits};
+ghost use Rattle.term.specs.Counts.{Countable};
+ghost use Rattle.normal.specs.Asked.{Links, CountedLinks};
+ghost use Rattle.normal.specs.Builds.{Stores, Leaf, Chains, Cats, Stars, Fitted, CatFits};
 use term::CAT;
 use term::Term;
 
@@ -62,7 +63,7 @@ fn chain(cells: &mut [u64], top: usize, a: usize, b: usize) -> Built
 }
 
 // One term after another: Nothing on a side gives Nothing, Empty on a side the other side, all else a chain.
-fn cat(cells: &mut [u64], top: usize, a: usize, b: usize) -> Built
+pub fn cat(cells: &mut [u64], top: usize, a: usize, b: usize) -> Built
     requires { ⌜ Links (now cells) top a b ⌝ }
     ensures { λ r. ⌜ Cats (now (cells .entry)) top a b (now (cells .exit)) r ⌝ }
 {
@@ -101,15 +102,23 @@ pub fn star(cells: &mut [u64], top: usize, a: usize) -> Built
     }
 }
 
-// cat with the limit: a result of too many nodes is Long.
-pub fn cat_fit(cells: &mut [u64], top: usize, a: usize, b: usize) -> Made
-    requires { ⌜ Links (now cells) top a b ⌝ }
-    ensures { λ r. ⌜ CatFits (now (cells .entry)) top a b (now (cells .exit)) r ⌝ }
+// What was built, with the limit: a result of too many nodes is Long.
+pub fn fit(cells: &mut [u64], made: Built) -> Made
+    requires { ⌜ Countable (now cells) (made .top) (made .root) ⌝ }
+    ensures { λ r. ⌜ Fitted (now (cells .entry)) made (now (cells .exit)) r ⌝ }
 {
-    let made = cat(cells, top, a, b);
-    if term::is_short(cells, made.root) {
+    if term::is_short(cells, made.top, made.root) {
         Made::Term(made.root, made.top)
     } else {
         Made::Long
     }
+}
+
+// cat with the limit.
+pub fn cat_fit(cells: &mut [u64], top: usize, a: usize, b: usize) -> Made
+    requires { ⌜ CountedLinks (now cells) top a b ⌝ }
+    ensures { λ r. ⌜ CatFits (now (cells .entry)) top a b (now (cells .exit)) r ⌝ }
+{
+    let made = cat(cells, top, a, b);
+    fit(cells, made)
 }

@@ -73,7 +73,7 @@ shownText = 512
 abbrev pub workCells : ℕ
 workCells = 65536
 
--- the cells in which one term is made, a derivative or a rule's normal form: no paper's number but ours
+-- the cells in which one term is made and counted, a derivative or a rule's normal form: no paper's number but ours
 abbrev pub scratch : ℕ
 scratch = 34816
 

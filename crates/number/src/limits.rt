@@ -61,5 +61,5 @@ pub const RULES_FILE: usize = 32768;
 // Lent work areas: the most cells that a call may ask for, so that a cell's number fits sixteen bits.
 pub const WORK_CELLS: usize = 65536;
 
-// The cells in which one term is made, a derivative or a rule's normal form: no paper's number but ours.
+// The cells in which one term is made and counted, a derivative or a rule's normal form: no paper's number but ours.
 pub const SCRATCH: usize = 34816;

@@ -20,16 +20,17 @@ use Rattle.term.specs.declared.Term.the-variants.{Range as RangeNode}
 use Rattle.term.specs.Cells.{term}
 use Rattle.term.specs.Area.{Room}
 use Rattle.term.specs.Nodes.{Pushed}
-use Rattle.term.specs.CellLaws.{grown-term, grown-trans}
-use Rattle.normal.specs.declared.Made.{Made}
+use Rattle.term.specs.Counts.{Countable}
+use Rattle.term.specs.CellLaws.{grown-trans, grown-term, makes-more, makes-as, makes-after}
+use Rattle.normal.specs.declared.Built.{Built}
 use Rattle.normal.specs.Asked.{Links}
 use Rattle.choice.specs.Asked.{members, mostMembers, altCells, Choices}
-use Rattle.choice.specs.Builds.{AltFits}
-use Rattle.normal.specs.AnswerLaws.{made-after}
+use Rattle.choice.specs.Builds.{Alts}
+use Rattle.normal.specs.AnswerLaws.{made-counts}
 use Rattle.normal.specs.ChainLaws.{cat-few}
 use Rattle.choice.specs.UniteLaws.{alt-few}
 use Rattle.rule.specs.RunFit.{large, small, made}
-use Rattle.rule.specs.Work.{Item, eitherCells, nodeCells, nodeRoom, Operands, NodeMade, EitherMade}
+use Rattle.rule.specs.Work.{Item, eitherCells, nodeCells, nodeRoom, Operands, NodeBuilt, EitherBuilt}
 
 -- ---- the two forms of a letter
 
@@ -59,10 +60,11 @@ module _ {s s1 s2 : List ℕ} {top second third x : ℕ} (room : Room s top eith
   unfolding gathered
   letters-few = rw (letter-large, letter-small) (alt-few (large x) (small x) tt tt)
 
-  pub letters-made : {s3 : List ℕ} {r : Made} → AltFits s2 third top second s3 r → EitherMade s top x s3 r
-  letters-made m =
-      made-after 2 3 (fit (alt (large x) (small x))) (grown-trans (p .makes .grown) (q .makes .grown)) (omega (arith, p .after, q .after)) m
-      (rw (letter-large, letter-small)) (omega (arith, letters-few))
+  pub letters-built : {s3 : List ℕ} {r : Built} → Alts s2 third top second s3 r → EitherBuilt s top x s3 r
+  letters-built m =
+      makes-as (alt (large x) (small x))
+      (makes-more 3 (makes-after 2 (grown-trans (p .makes .grown) (q .makes .grown)) (omega (arith, p .after, q .after)) m) (omega (arith, letters-few)))
+      (rw (letter-large, letter-small))
 
 -- ---- a node's parts
 
@@ -122,9 +124,13 @@ module _ {n : Node} {s : List ℕ} {top a b : ℕ} (o : Operands n s top a b) wh
       go Star q = omega arith
       go (Either x) q = omega arith
 
+  -- and its result may be counted
+  pub node-counts : {s′ : List ℕ} {made : Built} → NodeBuilt n s top a b s′ made → Countable s′ (made .top) (made .root)
+  node-counts m = made-counts m (omega (arith, o .room, node-few))
+
 -- another name of the node
-pub node-as : {n : Node} (m : Node) {s : List ℕ} {top : ℕ} (a b : ℕ) {s′ : List ℕ} {r : Made} → n ≡ m → NodeMade m s top a b s′ r
-    → NodeMade n s top a b s′ r
+pub node-as : {n : Node} (m : Node) {s : List ℕ} {top : ℕ} (a b : ℕ) {s′ : List ℕ} {r : Built} → n ≡ m → NodeBuilt m s top a b s′ r
+    → NodeBuilt n s top a b s′ r
 node-as m a b e x = rw e x
 
 -- ---- the cells of a node whose result fits

@@ -26,14 +26,18 @@ abbrev pub small : ℕ → Re
 small x = Re.Range x x
 
 -- what a node makes of the term on top, b, and the one below it, a; a node that takes fewer ignores the others
+abbrev pub nodeTerm : Node → Re → Re → Re
+nodeTerm Nothing a b = Re.Nothing
+nodeTerm Empty a b = Re.Empty
+nodeTerm (Range lo hi) a b = Re.Range lo hi
+nodeTerm Cat a b = cat a b
+nodeTerm Alt a b = alt a b
+nodeTerm Star a b = star b
+nodeTerm (Either x) a b = alt (large x) (small x)
+
+-- with the limit
 abbrev pub made : Node → Re → Re → Fit
-made Nothing a b = Fits Re.Nothing
-made Empty a b = Fits Re.Empty
-made (Range lo hi) a b = Fits (Re.Range lo hi)
-made Cat a b = fit (cat a b)
-made Alt a b = fit (alt a b)
-made Star a b = fit (star b)
-made (Either x) a b = fit (alt (large x) (small x))
+made n a b = fit (nodeTerm n a b)
 
 -- the term that is left at the end, or that a result was too long, which ends the work
 unfoldable pub runFit : List Node → List Re → Fit

@@ -7,7 +7,6 @@ use mathlib.Core.Bool.{Bool, true, false, cond}
 use mathlib.Core.List.{List, [], _∷_}
 use lib.ListN.{length, drop}
 use Rattle.meaning.specs.Re.{Re, size}
-use Rattle.meaning.specs.Normal.{cat, alt, star}
 use Rattle.meaning.specs.Limited.{Fit, _>>=_, short, fit, normalFit}
 use Rattle.meaning.specs.Limited.Fit.{Long, Fits}
 use Rattle.meaning.specs.Shape.{InShape}
@@ -18,7 +17,7 @@ use Rattle.book.specs.Book.{Rule, takes}
 use Rattle.book.specs.Valid.{Leaves, ValidRule}
 use Rattle.book.specs.Expression.{stacked, runNodes, top, expression}
 use Rattle.book.specs.ExpressionLaws.{stacked-length}
-use Rattle.rule.specs.RunFit.{second, large, small, made, runFit}
+use Rattle.rule.specs.RunFit.{second, large, small, nodeTerm, made, runFit}
 
 -- each term of one stack is the limited normal form of its place on the other
 pub data Each : List Re → List Re → Type 0 where
@@ -55,7 +54,7 @@ stacked-is (Either x) es h = refl
 
 -- and that one's limited normal form is made of theirs
 made-is : (n : Node) {es vs : List Re} → Each es vs → takes n ≤ length es → normalFit (top (stacked n es)) ≡ made n (second vs) (top vs)
-unfolding stacked normalFit
+unfolding stacked normalFit size
 made-is Nothing ps h = refl
 made-is Empty ps h = refl
 made-is (Range lo hi) ps h = refl
@@ -146,15 +145,14 @@ fit-held r v s = go (short r) refl
     go true f e = let same : r ≡ v = cc in rw (← same) (record { in-shape = s; is-short = f })
     go false f e = absurd (let z : _≡_ {A = ℕ} 0 1 = cc in omega arith)
 
-leaf-held : (r v : Re) → InShape r → short r ≡ true → _≡_ {A = Fit} (Fits r) (Fits v) → Held v
-leaf-held r v s f e = let same : r ≡ v = cc in rw (← same) (record { in-shape = s; is-short = f })
+node-shape : (n : Node) (a b : Re) → (2 ≤ takes n → InShape a) → (1 ≤ takes n → InShape b) → InShape (nodeTerm n a b)
+node-shape Nothing a b s t = tt
+node-shape Empty a b s t = tt
+node-shape (Range lo hi) a b s t = tt
+node-shape Cat a b s t = shape-cat a b (s (omega arith)) (t (omega arith))
+node-shape Alt a b s t = shape-alt a b (s (omega arith)) (t (omega arith))
+node-shape Star a b s t = shape-star b (t (omega arith))
+node-shape (Either x) a b s t = shape-alt (large x) (small x) tt tt
 
 pub made-held : (n : Node) (a b v : Re) → (2 ≤ takes n → InShape a) → (1 ≤ takes n → InShape b) → made n a b ≡ Fits v → Held v
-unfolding size
-made-held Nothing a b v s t e = leaf-held Re.Nothing v tt refl e
-made-held Empty a b v s t e = leaf-held Re.Empty v tt refl e
-made-held (Range lo hi) a b v s t e = leaf-held (Re.Range lo hi) v tt refl e
-made-held Cat a b v s t e = fit-held (cat a b) v (shape-cat a b (s (omega arith)) (t (omega arith))) e
-made-held Alt a b v s t e = fit-held (alt a b) v (shape-alt a b (s (omega arith)) (t (omega arith))) e
-made-held Star a b v s t e = fit-held (star b) v (shape-star b (t (omega arith))) e
-made-held (Either x) a b v s t e = fit-held (alt (large x) (small x)) v (shape-alt (large x) (small x) tt tt) e
+made-held n a b v s t e = fit-held (nodeTerm n a b) v (node-shape n a b s t) e

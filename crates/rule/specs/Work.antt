@@ -1,6 +1,6 @@
 -- What the code that works off a rule's nodes asks and answers: the rule, the stack of cells, and how many cells the rest may use.
 -- The contracts of this crate are stated with these.
-use Prim.Native.Nat.{ℕ, zero, suc, _+_, _*_, _/_, _<_, _≤_}
+use Prim.Native.Nat.{ℕ, zero, suc, _+_, _-_, _*_, _/_, _<_, _≤_}
 use mathlib.Core.Path.{_≡_}
 use mathlib.Core.Bool.{true}
 use mathlib.Core.List.{List, [], _∷_, _++_}
@@ -9,8 +9,8 @@ use Rattle.number.specs.Limits.{version, scratch}
 use Rattle.number.specs.Refused.{Answer}
 use Rattle.number.specs.Refused.Answer.{got, refused}
 use Rattle.meaning.specs.Re.{Re}
-use Rattle.meaning.specs.Normal.{alt, star}
-use Rattle.meaning.specs.Limited.{short, fit, normalFit}
+use Rattle.meaning.specs.Normal.{alt}
+use Rattle.meaning.specs.Limited.{short, normalFit}
 use Rattle.meaning.specs.Shape.{InShape}
 use Rattle.book.specs.declared.Node.{Node}
 use Rattle.book.specs.declared.Node.the-variants.{Nothing, Empty, Range, Cat, Alt, Star, Either}
@@ -20,12 +20,13 @@ use Rattle.book.specs.Valid.{Within, Leaves}
 use Rattle.book.specs.Expression.{expression}
 use Rattle.book.specs.Places.{ruleOf}
 use Rattle.term.specs.Cells.{term, Sound}
-use Rattle.term.specs.Area.{Room}
+use Rattle.term.specs.Area.{pending, Room, Makes}
+use Rattle.normal.specs.declared.Built.{Built}
 use Rattle.normal.specs.declared.Made.{Made}
 use Rattle.normal.specs.Asked.{catCells}
 use Rattle.choice.specs.Asked.{mostMembers, altCells}
 use Rattle.normal.specs.Made.{MadeBy}
-use Rattle.rule.specs.RunFit.{large, small, made, runFit}
+use Rattle.rule.specs.RunFit.{large, small, nodeTerm, made, runFit}
 
 -- ---- the rule
 
@@ -44,12 +45,12 @@ ruleOfRead (refused r) i = Re.Nothing
 abbrev pub ruleIn : List ℕ → ℕ → Re
 ruleIn file i = ruleOfRead (readBook file) i
 
--- the cells that its normal form may need
-abbrev pub ruleScratch : ℕ
-ruleScratch = scratch
+-- the cells that its normal form may use: of the scratch, those that counting leaves
+abbrev pub ruleCells : ℕ
+ruleCells = scratch - pending
 
 abbrev pub RuleMade : List ℕ → ℕ → List ℕ → ℕ → List ℕ → Made → Type 0
-RuleMade file rule s top s′ r = MadeBy s top s′ r (normalFit (ruleIn file rule)) ruleScratch
+RuleMade file rule s top s′ r = MadeBy s top s′ r (normalFit (ruleIn file rule)) ruleCells
 
 -- ---- one node
 
@@ -62,7 +63,7 @@ pub record Item (s : List ℕ) (top i : ℕ) : Type 0 where
 abbrev pub eitherCells : ℕ
 eitherCells = 4
 
--- the cells that a node uses, and those that any node may
+-- the cells that a node uses, and those that any node may, counting left out
 abbrev pub nodeCells : Node → Re → Re → ℕ
 nodeCells Nothing a b = 1
 nodeCells Empty a b = 1
@@ -78,19 +79,19 @@ nodeRoom = 2 * mostMembers
 -- a node and the two numbers on top of the stack, of which those that it takes are items
 pub record Operands (n : Node) (s : List ℕ) (top a b : ℕ) : Type 0 where
   pub sound : Sound s top
-  pub room : Room s top nodeRoom
+  pub room : Room s top (nodeRoom + pending)
   pub good : Within n
   pub below : 2 ≤ takes n → Item s top a
   pub first : 1 ≤ takes n → Item s top b
 
+abbrev pub EitherBuilt : List ℕ → ℕ → ℕ → List ℕ → Built → Type 0
+EitherBuilt s top x s′ r = Makes s top s′ (r .root) (r .top) (alt (large x) (small x)) 3
+
+abbrev pub NodeBuilt : Node → List ℕ → ℕ → ℕ → ℕ → List ℕ → Built → Type 0
+NodeBuilt n s top a b s′ r = Makes s top s′ (r .root) (r .top) (nodeTerm n (term s a) (term s b)) (nodeCells n (term s a) (term s b))
+
 abbrev pub NodeMade : Node → List ℕ → ℕ → ℕ → ℕ → List ℕ → Made → Type 0
 NodeMade n s top a b s′ r = MadeBy s top s′ r (made n (term s a) (term s b)) (nodeCells n (term s a) (term s b))
-
-abbrev pub StarMade : List ℕ → ℕ → ℕ → List ℕ → Made → Type 0
-StarMade s top a s′ r = MadeBy s top s′ r (fit (star (term s a))) 1
-
-abbrev pub EitherMade : List ℕ → ℕ → ℕ → List ℕ → Made → Type 0
-EitherMade s top x s′ r = MadeBy s top s′ r (fit (alt (large x) (small x))) 3
 
 -- ---- the nodes that are left
 
@@ -122,7 +123,7 @@ restCells left h = mostMembers / 2 * (left + h) + 3 * left + nodeRoom
 pub record Working (file : List ℕ) (at left : ℕ) (s : List ℕ) (top : ℕ) (st : List ℕ) (h : ℕ) : Type 0 where
   pub standing : Standing file at left h
   pub sound : Sound s top
-  pub room : Room s top (restCells left h)
+  pub room : Room s top (restCells left h + pending)
   pub places : h + left + 2 ≤ length st
   pub items : (i : ℕ) → i < h → Item s top (getD st (i + 2) 0)
 

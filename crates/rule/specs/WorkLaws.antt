@@ -8,7 +8,7 @@ use mathlib.Core.Path.{_≡_, refl, sym, ap, _∙_}
 use mathlib.Core.List.{List, [], _∷_, _++_}
 use lib.ListN.{length, getD, drop, set, length-set}
 use lib.Seq.{getD-set-same, getD-set-other}
-use Rattle.number.specs.Limits.{version, nodes}
+use Rattle.number.specs.Limits.{version, nodes, scratch}
 use Rattle.number.specs.declared.Refusal.{Refusal}
 use Rattle.number.specs.Refused.Answer.{got, refused}
 use Rattle.number.specs.Numbers.{Bytes}
@@ -28,14 +28,14 @@ use Rattle.book.specs.ReadLawsWritten.{nodes-written}
 use Rattle.book.specs.ReadLawsPlaces.{RuleIn, node-step, rule-in}
 use Rattle.book.specs.PlaceLaws.{place-known}
 use Rattle.term.specs.Cells.{term, Sound}
-use Rattle.term.specs.Area.{Grown, Room}
+use Rattle.term.specs.Area.{pending, GrownFree, Room}
 use Rattle.term.specs.CellLaws.{grown-refl, grown-term, makes-old}
 use Rattle.normal.specs.declared.Made.{Made}
 use Rattle.normal.specs.declared.Made.the-variants.{Term, Long as Made·long}
 use Rattle.normal.specs.AnswerLaws.{Got, long-is, made-term, made-after, long-after}
 use Rattle.rule.specs.RunFit.{second, made, runFit}
 use Rattle.rule.specs.RunFitLaws.{Held, made-held, run-fit}
-use Rattle.rule.specs.Work.{Has, ruleIn, ruleScratch, RuleMade, Item, nodeCells, Operands, NodeMade}
+use Rattle.rule.specs.Work.{Has, ruleIn, ruleCells, RuleMade, Item, nodeCells, Operands, NodeMade}
 use Rattle.rule.specs.Work.{Standing, nodesLeft, stackOf, restCells, Working, Worked}
 use Rattle.rule.specs.NodeLaws.{node-few, node-cells}
 
@@ -136,7 +136,7 @@ made-same Star p q = rw (q (omega arith))
 made-same (Either x) p q = refl
 
 -- an item is one after a growth
-item-kept : {s s′ : List ℕ} {top top′ : ℕ} (i : ℕ) → Sound s top → Grown s top s′ top′ → Item s top i → Item s′ top′ i
+item-kept : {s s′ : List ℕ} {top top′ : ℕ} (i : ℕ) → Sound s top → GrownFree pending s top s′ top′ → Item s top i → Item s′ top′ i
 item-kept {s} {s′} i ok g x =
     let same : term s′ i ≡ term s i = grown-term i g ok (x .low) in
     record { low = omega (arith, x .low, g .up); in-shape = rw same (x .in-shape); is-short = rw same (x .is-short) }
@@ -268,7 +268,7 @@ module _ (file : List ℕ) (rule : ℕ) (has : Has file rule) (all : Bytes file)
   rule-few : p .nodes ≤ nodes
   rule-few = rw placed (there .small)
 
-  pub rule-works : {s : List ℕ} {top : ℕ} (st : List ℕ) → Sound s top → Room s top ruleScratch → length st ≡ nodes + 2
+  pub rule-works : {s : List ℕ} {top : ℕ} (st : List ℕ) → Sound s top → Room s top scratch → length st ≡ nodes + 2
       → Working file (p .at) (p .nodes) s top st 0
   rule-works st ok room places =
       record {
@@ -287,4 +287,4 @@ module _ (file : List ℕ) (rule : ℕ) (has : Has file rule) (all : Bytes file)
 
   pub rule-made : {s : List ℕ} {top : ℕ} (st : List ℕ) → Sound s top → {s′ : List ℕ} {r : Made}
       → Worked file (p .at) (p .nodes) s top st 0 s′ r → RuleMade file rule s top s′ r
-  rule-made {s} st ok m = made-after 0 ruleScratch _ (grown-refl ok) (omega arith) m (rule-normal s st) (omega (arith, rule-few))
+  rule-made {s} st ok m = made-after 0 ruleCells _ (grown-refl ok) (omega arith) m (rule-normal s st) (omega (arith, rule-few))

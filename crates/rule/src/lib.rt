@@ -1,14 +1,14 @@
 // The normal form of a rule, built in the work area from the rule's nodes as they stand in the book's bytes.
 // The nodes are worked off with a stack of cells; each result is counted, and one that is too long ends the work.
-ghost use Prim.Native.Nat.{_<_, _≤_};
-ghost use lib.ListN.{length};
-ghost use Rattle.number.specs.Limits.{firstLetter, lastLetter};
+ghost use Prim.Native.Nat.{_≤_};
+ghost use Rattle.number.specs.Limits.{firstLetter, lastLetter, scratch};
 ghost use Rattle.term.specs.Cells.{Sound};
 ghost use Rattle.term.specs.Area.{Room};
-ghost use Rattle.rule.specs.Work.{ruleScratch, Has, RuleMade, eitherCells, Operands, NodeMade, StarMade, EitherMade};
+ghost use Rattle.rule.specs.Work.{Has, RuleMade, eitherCells, Operands, EitherBuilt, NodeBuilt, NodeMade};
 ghost use Rattle.rule.specs.Work.{Working, Worked};
 use book::Node;
 use book::NodeRead;
+use normal::Built;
 use normal::Made;
 use number::limits::CAPITAL;
 use number::limits::NODES;
@@ -16,48 +16,42 @@ use number::limits::VERSION;
 use term::Term;
 
 // The choice of a letter's two forms, the capital first.
-fn either_term(cells: &mut [u64], top: usize, letter: usize) -> Made
+fn either_built(cells: &mut [u64], top: usize, letter: usize) -> Built
     requires { ⌜ Sound (now cells) top ⌝ }
     requires { ⌜ Room (now cells) top eitherCells ⌝ }
     requires { ⌜ firstLetter ≤ letter ⌝ }
     requires { ⌜ letter ≤ lastLetter ⌝ }
-    ensures { λ r. ⌜ EitherMade (now (cells .entry)) top letter (now (cells .exit)) r ⌝ }
+    ensures { λ r. ⌜ EitherBuilt (now (cells .entry)) top letter (now (cells .exit)) r ⌝ }
 {
     let capital = letter - CAPITAL;
     let second = term::push(cells, top, Term::Range(capital, capital));
     let third = term::push(cells, second, Term::Range(letter, letter));
-    choice::alt_fit(cells, third, top, second)
-}
-
-// The repeat of a term, with the limit.
-fn star_term(cells: &mut [u64], top: usize, a: usize) -> Made
-    requires { ⌜ Sound (now cells) top ⌝ }
-    requires { ⌜ top < length (now cells) ⌝ }
-    requires { ⌜ a < top ⌝ }
-    ensures { λ r. ⌜ StarMade (now (cells .entry)) top a (now (cells .exit)) r ⌝ }
-{
-    let made = normal::star(cells, top, a);
-    if term::is_short(cells, made.root) {
-        Made::Term(made.root, made.top)
-    } else {
-        Made::Long
-    }
+    choice::alt(cells, third, top, second)
 }
 
 // What a node makes of the term on top of the stack, `b`, and the one below it, `a`; one that takes fewer ignores the others.
+fn node_built(cells: &mut [u64], top: usize, node: Node, a: usize, b: usize) -> Built
+    requires { ⌜ Operands node (now cells) top a b ⌝ }
+    ensures { λ r. ⌜ NodeBuilt node (now (cells .entry)) top a b (now (cells .exit)) r ⌝ }
+{
+    match node {
+        Node::Nothing => normal::store(cells, top, Term::Nothing),
+        Node::Empty => normal::store(cells, top, Term::Empty),
+        Node::Range(lo, hi) => normal::store(cells, top, Term::Range(lo, hi)),
+        Node::Cat => normal::cat(cells, top, a, b),
+        Node::Alt => choice::alt(cells, top, a, b),
+        Node::Star => normal::star(cells, top, b),
+        Node::Either(letter) => either_built(cells, top, letter),
+    }
+}
+
+// The same with the limit: all that a node makes is counted here.
 fn node_term(cells: &mut [u64], top: usize, node: Node, a: usize, b: usize) -> Made
     requires { ⌜ Operands node (now cells) top a b ⌝ }
     ensures { λ r. ⌜ NodeMade node (now (cells .entry)) top a b (now (cells .exit)) r ⌝ }
 {
-    match node {
-        Node::Nothing => normal::leaf(cells, top, Term::Nothing),
-        Node::Empty => normal::leaf(cells, top, Term::Empty),
-        Node::Range(lo, hi) => normal::leaf(cells, top, Term::Range(lo, hi)),
-        Node::Cat => normal::cat_fit(cells, top, a, b),
-        Node::Alt => choice::alt_fit(cells, top, a, b),
-        Node::Star => star_term(cells, top, b),
-        Node::Either(letter) => either_term(cells, top, letter),
-    }
+    let made = node_built(cells, top, node, a, b);
+    normal::fit(cells, made)
 }
 
 // Works off the nodes that are left, so many terms high. Two spare places below the stack let every node read two numbers.
@@ -93,7 +87,7 @@ fn work(
 pub fn rule_term(book: &[u8], rule: usize, cells: &mut [u64], top: usize) -> Made
     requires { ⌜ Has (now book) rule ⌝ }
     requires { ⌜ Sound (now cells) top ⌝ }
-    requires { ⌜ Room (now cells) top ruleScratch ⌝ }
+    requires { ⌜ Room (now cells) top scratch ⌝ }
     ensures { λ r. ⌜ RuleMade (now (book .entry)) rule (now (cells .entry)) top (now (cells .exit)) r ⌝ }
 {
     let place = places::rule_place(book, rule);

@@ -8,7 +8,7 @@ use mathlib.Core.Bool.{Bool, true, false, cond}
 use mathlib.Core.List.{List, [], _∷_, _++_, append-assoc, append-nil}
 use lib.ListN.{length, drop, set, replicate, length-set, length-map, length-replicate, getD-replicate, drop-of-length-le, List·getD-map}
 use lib.Seq.{drop-cons, getD-set-same, getD-set-other}
-use Rattle.number.specs.Limits.{rules, treeNodes}
+use Rattle.number.specs.Limits.{rules, treeNodes, scratch}
 use Rattle.meaning.specs.Re.{Re, size}
 use Rattle.meaning.specs.Re.Re.{Nothing, Empty, Range, Cat, Alt, Star}
 use Rattle.meaning.specs.Normal.{cat, alt, star}
@@ -22,12 +22,12 @@ use Rattle.book.specs.Expression.{expression, meant}
 use Rattle.book.specs.Places.{noRule}
 use Rattle.book.specs.ReadLaws.{book-valid}
 use Rattle.term.specs.Cells.{term, Sound}
-use Rattle.term.specs.Area.{Grown, Room}
+use Rattle.term.specs.Area.{pending, GrownFree, Room}
 use Rattle.term.specs.CellLaws.{Same, sound-less}
 use Rattle.normal.specs.declared.Made.{Made}
 use Rattle.normal.specs.declared.Made.the-variants.{Long as Made·long}
 use Rattle.normal.specs.AnswerLaws.{Got, long-is}
-use Rattle.rule.specs.Work.{Has, ruleIn, ruleScratch, RuleMade}
+use Rattle.rule.specs.Work.{Has, ruleIn, ruleCells, RuleMade}
 use Rattle.pool.specs.Pooled.{termsOf, Pool}
 use Rattle.pool.specs.Index.{Indexed, Open, Put}
 use Rattle.pool.specs.IndexLaws.{indexed-same}
@@ -143,7 +143,7 @@ module _ {file : List ℕ} {n : ℕ} {s₀ : List ℕ} (o : Opened file n s₀) 
     pub rule-has : Has file i
     rule-has = record { book = o .book; after = o .after; read = o .read; within = omega (arith, o .many) }
 
-    pub rule-room : Room s top ruleScratch
+    pub rule-room : Room s top scratch
     rule-room = omega (arith, low, g .long)
 
     -- a rule that is too long
@@ -153,14 +153,14 @@ module _ {file : List ℕ} {n : ℕ} {s₀ : List ℕ} (o : Opened file n s₀) 
         ∙ fronts-long (vectorOf s i w) (ruleIn file i) (drop (i + 1) (rulesIn file)) (long-is m e)
 
     -- a rule's term stands in scratch
-    module _ {s₁ : List ℕ} {root above : ℕ} (x : Got s top s₁ root above (normalFit (ruleIn file i)) ruleScratch) where
+    module _ {s₁ : List ℕ} {root above : ℕ} (x : Got s top s₁ root above (normalFit (ruleIn file i)) ruleCells) where
       value-short : short (x .value) ≡ true
       value-short = fits-short (ruleIn file i) (x .value) (x .fits)
 
       value-shape : InShape (x .value)
       value-shape = rw (normal-short (ruleIn file i) (x .value) (x .fits)) (shape-normal (ruleIn file i))
 
-      grown : Grown s top s₁ above
+      grown : GrownFree pending s top s₁ above
       grown = x .makes .grown
 
       pub put-open : {index : List ℕ} → Indexed index s top → Open index s₁ top treeNodes

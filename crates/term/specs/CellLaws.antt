@@ -13,7 +13,7 @@ use Rattle.meaning.specs.Re.{Re, isNothing, isEmpty}
 use Rattle.term.specs.declared.Term.{Term}
 use Rattle.term.specs.declared.Term.the-variants.{Nothing, Empty, Range, Cat, Alt, Star}
 use Rattle.term.specs.Cells.{fieldSize, kindSize, first, second, packed, nodeOf, cellOf, grow, termBy, term, Below, Sound}
-use Rattle.term.specs.Area.{Grown, Room, Makes}
+use Rattle.term.specs.Area.{Wasted, GrownFree, Grown, Room, MakesFree, Makes}
 use Rattle.term.specs.Nodes.{Fields, nothingNode, emptyNode, Found, Pushed}
 
 -- ---- a cell gives its node back
@@ -168,7 +168,7 @@ sound-less less ok h =
       small = ok .small;
     }
 
-pub grown-refl : {s : List ℕ} {top : ℕ} → Sound s top → Grown s top s top
+pub grown-refl : {free : ℕ} {s : List ℕ} {top : ℕ} → Sound s top → GrownFree free s top s top
 grown-refl ok =
     record {
       up = omega arith;
@@ -178,7 +178,8 @@ grown-refl ok =
       sound = ok;
     }
 
-pub grown-trans : {s s′ s″ : List ℕ} {top top′ top″ : ℕ} → Grown s top s′ top′ → Grown s′ top′ s″ top″ → Grown s top s″ top″
+pub grown-trans : {free : ℕ} {s s′ s″ : List ℕ} {top top′ top″ : ℕ} → GrownFree free s top s′ top′ → GrownFree free s′ top′ s″ top″
+    → GrownFree free s top s″ top″
 grown-trans g h =
     record {
       up = omega arith;
@@ -188,39 +189,65 @@ grown-trans g h =
       sound = h .sound;
     }
 
+-- a growth may be told with more cells free, and what comes to waste above the top is a growth by no cell
+pub grown-free : (free : ℕ) {s s′ : List ℕ} {top top′ : ℕ} → Grown s top s′ top′ → GrownFree free s top s′ top′
+grown-free free g =
+    record {
+      up = g .up;
+      same-length = g .same-length;
+      kept-below = g .kept-below;
+      kept-above = λ i k. g .kept-above i (omega arith);
+      sound = g .sound;
+    }
+
+pub wasted-grown : {free : ℕ} {s s′ : List ℕ} {top : ℕ} → Sound s top → Wasted s top s′ (top + free) → GrownFree free s top s′ top
+wasted-grown {s′ = s′} ok w =
+    record {
+      up = omega arith;
+      same-length = w .same-length;
+      kept-below = w .kept-below;
+      kept-above = w .kept-above;
+      sound = sound-same s′ ok (w .kept-below) (w .same-length);
+    }
+
 -- the cells that are left after a growth of at most `used` cells
-pub room-after : {s s′ : List ℕ} {top top′ : ℕ} (used more : ℕ) → Grown s top s′ top′ → top′ ≤ top + used → Room s top (used + more) → Room s′ top′
-    more
+pub room-after : {free : ℕ} {s s′ : List ℕ} {top top′ : ℕ} (used more : ℕ) → GrownFree free s top s′ top′ → top′ ≤ top + used
+    → Room s top (used + more) → Room s′ top′ more
 room-after used more g h r = omega arith
 
 -- a term that stood below the old top
-pub grown-term : {s s′ : List ℕ} {top top′ : ℕ} (i : ℕ) → Grown s top s′ top′ → Sound s top → i < top → term s′ i ≡ term s i
-grown-term {s} {s′} {top} i g ok h = frame s s′ top i ok (g .kept-below) h
+pub grown-term : {free : ℕ} {s s′ : List ℕ} {top top′ : ℕ} (i : ℕ) → GrownFree free s top s′ top′ → Sound s top → i < top → term s′ i ≡ term s i
+grown-term {free} {s} {s′} {top} i g ok h = frame s s′ top i ok (g .kept-below) h
 
 -- ---- what was made
 
 -- a term that stands already is made with no cell
-pub makes-old : {s : List ℕ} {top : ℕ} (i more : ℕ) (v : Re) → Sound s top → i < top → term s i ≡ v → Makes s top s i top v more
+pub makes-old : {free : ℕ} {s : List ℕ} {top : ℕ} (i more : ℕ) (v : Re) → Sound s top → i < top → term s i ≡ v
+    → MakesFree free s top s i top v more
 makes-old i more v ok h e = record { grown = grown-refl ok; within = h; is = e; few = omega arith }
 
 -- a larger bound, another name of the term
-pub makes-more : {s s′ : List ℕ} {top root top′ more : ℕ} {v : Re} (most : ℕ) → Makes s top s′ root top′ v more → more ≤ most
-    → Makes s top s′ root top′ v most
+pub makes-more : {free : ℕ} {s s′ : List ℕ} {top root top′ more : ℕ} {v : Re} (most : ℕ) → MakesFree free s top s′ root top′ v more → more ≤ most
+    → MakesFree free s top s′ root top′ v most
 makes-more most m h = record { grown = m .grown; within = m .within; is = m .is; few = omega arith }
 
-pub makes-as : {s s′ : List ℕ} {top root top′ more : ℕ} {v : Re} (w : Re) → Makes s top s′ root top′ v more → v ≡ w
-    → Makes s top s′ root top′ w more
+pub makes-as : {free : ℕ} {s s′ : List ℕ} {top root top′ more : ℕ} {v : Re} (w : Re) → MakesFree free s top s′ root top′ v more → v ≡ w
+    → MakesFree free s top s′ root top′ w more
 makes-as w m e = record { grown = m .grown; within = m .within; is = m .is ∙ e; few = m .few }
 
+pub makes-free : (free : ℕ) {s s′ : List ℕ} {top root top′ more : ℕ} {v : Re} → Makes s top s′ root top′ v more
+    → MakesFree free s top s′ root top′ v more
+makes-free free m = record { grown = grown-free free (m .grown); within = m .within; is = m .is; few = m .few }
+
 -- made after a growth of at most `before` cells
-pub makes-after : {s s′ s″ : List ℕ} {top top′ root top″ more : ℕ} {v : Re} (before : ℕ) → Grown s top s′ top′ → top′ ≤ top + before
-    → Makes s′ top′ s″ root top″ v more → Makes s top s″ root top″ v (before + more)
+pub makes-after : {free : ℕ} {s s′ s″ : List ℕ} {top top′ root top″ more : ℕ} {v : Re} (before : ℕ) → GrownFree free s top s′ top′
+    → top′ ≤ top + before → MakesFree free s′ top′ s″ root top″ v more → MakesFree free s top s″ root top″ v (before + more)
 makes-after before g h m = record { grown = grown-trans g (m .grown); within = m .within; is = m .is; few = omega arith }
 
 -- made, and still there after a growth of at most `after` cells
-pub makes-kept : {s s′ s″ : List ℕ} {top top′ root top″ more : ℕ} {v : Re} (after : ℕ) → Makes s top s′ root top′ v more
-    → Grown s′ top′ s″ top″ → top″ ≤ top′ + after → Makes s top s″ root top″ v (more + after)
-makes-kept {s} {s′} {s″} {top} {top′} {root} after m g h =
+pub makes-kept : {free : ℕ} {s s′ s″ : List ℕ} {top top′ root top″ more : ℕ} {v : Re} (after : ℕ) → MakesFree free s top s′ root top′ v more
+    → GrownFree free s′ top′ s″ top″ → top″ ≤ top′ + after → MakesFree free s top s″ root top″ v (more + after)
+makes-kept {free} {s} {s′} {s″} {top} {top′} {root} after m g h =
     record {
       grown = grown-trans (m .grown) g;
       within = omega arith;

@@ -1,7 +1,9 @@
--- Terms in the work area. Definitions, in reading order: Cells, Area, Nodes; the other files prove laws that the code's proofs cite.
+-- Terms in the work area. Definitions, in reading order: Cells, Area, Nodes, Counts; the other files prove laws that the code's proofs cite.
 -- Callers above use the laws of `term`, never cells.
 pub mod Cells
 pub mod Area
 pub mod Nodes
+pub mod Counts
 pub mod CellLaws
 pub mod ReadLaws
+pub mod CountLaws

@@ -1,14 +1,12 @@
 -- Laws for the functions that read a term off its nodes, one for each of their returns: size, the empty text, order.
 -- Each says what the term's answer is by the answers of its children, over what reading the node told.
-use Prim.Native.Nat.{ℕ, zero, suc, _+_, _-_, _<_, _≤_, compare, Ordering, Ordering·lt, Ordering·eq, Ordering·gt, compare·zero-zero, compare·zero-suc, compare·suc-zero, compare·suc-suc}
+use Prim.Native.Nat.{ℕ, zero, suc, _+_, _<_, _≤_, compare, Ordering, Ordering·lt, Ordering·eq, Ordering·gt, compare·zero-zero, compare·zero-suc, compare·suc-zero, compare·suc-suc}
 use native.Mathlib.Omega.{arith}
 use native.Mathlib.Decide.{decLt}
 use mathlib.Core.Path.{_≡_, refl, sym, _∙_}
 use mathlib.Core.Bool.{true, false, cond}
 use mathlib.Core.List.{List}
-use lib.Dec.{eqb, leb, ltb}
-use borrow.Author.Tests.{lt-ltb, le-ltb, le-leb, lt-leb}
-use Rattle.number.specs.Limits.{treeNodes}
+use lib.Dec.{eqb}
 use Rattle.meaning.specs.Re.{Re, size}
 use Rattle.meaning.specs.Order.{order, also, rank}
 use Rattle.meaning.specs.OrderLaws.{order-self}
@@ -104,14 +102,6 @@ pair-size s i (Range lo hi) f h n a b d e = absurd (omega arith)
 pair-size s i (Cat l r) f h n a b d e = rw (d, e) (cat-size s i l r f)
 pair-size s i (Alt l r) f h n a b d e = rw (d, e) (alt-size s i l r f)
 pair-size s i (Star l) f h n a b d e = absurd (n refl)
-
--- something is left of one node more than allowed exactly if there are few enough
-pub left-short : (n left : ℕ) → left ≡ treeNodes + 1 - n → ltb 0 left ≡ leb n treeNodes
-left-short n left e =
-    elim (decLt treeNodes n) [
-      | yes h ↦ le-ltb 0 left (omega arith) ∙ sym (lt-leb n treeNodes h)
-      | no h ↦ lt-ltb 0 left (omega arith) ∙ sym (le-leb n treeNodes (omega arith))
-    ]
 
 -- ---- the empty text
 

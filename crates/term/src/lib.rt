@@ -1,15 +1,13 @@
 // Terms in a lent work area of cells: nodes read and stored, counted, tested for the empty text, compared.
 // A node is an enum by value; a child's number is below its parent's, so every recursion ends.
 ghost use mathlib.Core.Path.{_≡_};
-ghost use Prim.Native.Nat.{_+_, _-_, _<_, compare};
-ghost use lib.Dec.{leb};
+ghost use Prim.Native.Nat.{_+_, _<_, compare};
 ghost use lib.ListN.{length, getD};
-ghost use Rattle.number.specs.Limits.{treeNodes};
-ghost use Rattle.meaning.specs.Re.{size};
 ghost use Rattle.meaning.specs.Derive.{nullable as matchesEmpty};
 ghost use Rattle.meaning.specs.Order.{order, also};
 ghost use Rattle.term.specs.Cells.{fieldSize, kindSize, packed, nodeOf, cellOf, term, Below, Sound};
 ghost use Rattle.term.specs.Nodes.{kindOf, firstOf, secondOf, nothingNode, emptyNode, ordering, Fields, Pushed};
+ghost use Rattle.term.specs.Counts.{Countable, ShortTold};
 use number::limits::TREE_NODES;
 use number::limits::WORK_CELLS;
 
@@ -172,38 +170,35 @@ pub fn is_empty(t: Term) -> bool
     }
 }
 
-// The number of a budget that is left when the nodes of a term's tree are counted off it, 0 where there are more.
-fn count_down(cells: &[u64], i: usize, left: usize) -> usize
-    requires { ⌜ Sound (now cells) (i + 1) ⌝ }
-    ensures { λ r. ⌜ r ≡ left - size (term (now (cells .entry)) i) ⌝ }
+// Whether a term's tree has few enough nodes. It is gone through from left to right: where a node has two children, the place of the
+// second is listed in the cells from `top` to `end`, to be counted when the first has been.
+pub fn is_short(cells: &mut [u64], top: usize, i: usize) -> bool
+    requires { ⌜ Countable (now cells) top i ⌝ }
+    ensures { λ r. ⌜ ShortTold (now (cells .entry)) top i (now (cells .exit)) r ⌝ }
 {
-    if left == 0 {
-        return 0;
-    }
-    let node = node_at(cells, i);
-    match node {
-        Term::Nothing => left - 1,
-        Term::Empty => left - 1,
-        Term::Range(_, _) => left - 1,
-        Term::Cat(a, b) => {
-            let rest = count_down(cells, a, left - 1);
-            count_down(cells, b, rest)
+    let mut at = i;
+    let mut end = top;
+    let mut left = TREE_NODES;
+    while 0 < left {
+        left -= 1;
+        let node = node_at(cells, at);
+        let kind = kind_of(node);
+        if kind < CAT {
+            if end == top {
+                return true;
+            }
+            end -= 1;
+            at = cells[end] as usize;
+            continue;
         }
-        Term::Alt(a, b) => {
-            let rest = count_down(cells, a, left - 1);
-            count_down(cells, b, rest)
+        at = first_of(node);
+        if kind == STAR {
+            continue;
         }
-        Term::Star(a) => count_down(cells, a, left - 1),
+        cells[end] = second_of(node) as u64;
+        end += 1;
     }
-}
-
-// Whether a term's tree has few enough nodes.
-pub fn is_short(cells: &[u64], i: usize) -> bool
-    requires { ⌜ Sound (now cells) (i + 1) ⌝ }
-    ensures { λ r. ⌜ r ≡ leb (size (term (now (cells .entry)) i)) treeNodes ⌝ }
-{
-    let left = count_down(cells, i, TREE_NODES + 1);
-    0 < left
+    false
 }
 
 // Whether a term matches the empty text.

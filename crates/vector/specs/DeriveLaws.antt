@@ -22,11 +22,11 @@ use Rattle.meaning.specs.Shape.{InShape}
 use Rattle.meaning.specs.ShapeLaws.{shape-deriv}
 use Rattle.meaning.specs.SizeLaws.{short-size}
 use Rattle.term.specs.Cells.{term, Sound}
-use Rattle.term.specs.Area.{Grown}
+use Rattle.term.specs.Area.{pending, Wasted, GrownFree}
 use Rattle.term.specs.CellLaws.{Same, frame, sound-less}
 use Rattle.normal.specs.declared.Made.{Made}
 use Rattle.normal.specs.declared.Made.the-variants.{Long as Made·long}
-use Rattle.normal.specs.Made.{Wasted, MadeBy}
+use Rattle.normal.specs.Made.{MadeBy}
 use Rattle.derivative.specs.Derives.{derivRoom, derivCells, Derives}
 use Rattle.normal.specs.AnswerLaws.{Got, long-is}
 use Rattle.walk.specs.Vectors.{Vector, front, derived}
@@ -206,11 +206,11 @@ module _ {x s : List ℕ} {top n : ℕ} {v : List ℕ} {byte : ℕ} {x₁ s₁ :
   old-size : size (term s₁ (getD v i 0)) ≤ treeNodes
   old-size = short-size (term s₁ (getD v i 0)) old-short
 
-  -- how far the pool has grown, and that the cells used by the derivative end below Nothing's
+  -- how far the pool has grown, and that the cells used by the derivative and by counting end below Nothing's
   low : next + treeNodes ≤ pool + rules * treeNodes
   low = omega (arith, g .done .few, d .low, d .few-rules)
 
-  used : next + derivCells (term s₁ (getD v i 0)) ≤ nothingCell
+  used : next + derivCells (term s₁ (getD v i 0)) + pending ≤ nothingCell
   unfolding derivCells
   used = omega (arith, low, old-size)
 
@@ -235,7 +235,7 @@ module _ {x s : List ℕ} {top n : ℕ} {v : List ℕ} {byte : ℕ} {x₁ s₁ :
   -- the place's term is too long, and so is the vector
   module _ {s₂ : List ℕ} {r : Made} (m : MadeBy s₁ next s₂ r (derivFit byte (term s₁ (getD v i 0))) (derivCells (term s₁ (getD v i 0))))
       (e : r ≡ Made·long) where
-    wasted : Wasted s₁ next s₂ (next + derivCells (term s₁ (getD v i 0)))
+    wasted : Wasted s₁ next s₂ (next + derivCells (term s₁ (getD v i 0)) + pending)
     wasted = rw (e, long-is m e) at (m .answers)
 
     pub place-spared : Spared s top s₂
@@ -259,7 +259,7 @@ module _ {x s : List ℕ} {top n : ℕ} {v : List ℕ} {byte : ℕ} {x₁ s₁ :
     new-size : size (term s₂ root) ≤ treeNodes
     new-size = rw (o .makes .is) (short-size (o .value) new-short)
 
-    grown : Grown s₁ next s₂ above
+    grown : GrownFree pending s₁ next s₂ above
     grown = o .makes .grown
 
     pub place-puts : Puts x₁ s₂ next root

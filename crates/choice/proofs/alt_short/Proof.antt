@@ -1,9 +1,9 @@
--- `choice::alt_short` meets its contract: with Nothing on a side the other side is the choice, and fits as it is.
+-- `choice::alt_short` meets its contract: with Nothing on a side the other side is the choice, and fits as it is; all else is counted.
 -- Assumes nothing.
 use Rattle.term.specs.CellLaws.{found}
 use Rattle.normal.specs.NodeLaws.{told-nothing}
-use Rattle.choice.specs.UniteLaws.{alt-none-left, alt-none-right}
-use Rattle.normal.specs.AnswerLaws.{fits-made}
+use Rattle.normal.specs.AnswerLaws.{fitted, fits-made}
+use Rattle.choice.specs.UniteLaws.{alt-none-left, alt-none-right, alt-counts}
 use borrow.Author.Needs.{needs}
 use Rattle.choice.proofs.alt_short.Statement.{statement}
 use Rattle.choice.proofs.alt_short.Tie as tie
@@ -38,14 +38,19 @@ returns-2 c =
     let y = found _ _ _ _ (p .choices .sound) (p .choices .right) (c .before .before .node-at2 .ensures) in
     fits-made (alt-none-right (p .choices) (told-nothing y (c .before .is-nothing2 .ensures) (c .if2 .taken))) (p .left-short)
 
-alt-fit-requires : tie.Need-alt-fit-requires
-alt-fit-requires c κs = search needs
+alt-requires : tie.Need-alt-requires
+alt-requires c κs = search needs
+
+fit-requires : tie.Need-fit-requires
+fit-requires c κs =
+    let made = c .before .before .before in
+    alt-counts (made .before .before .before .before .before .before .before .before .before .before .before .pre) (made .alt .ensures)
 
 same-length-3 : tie.Need-same-length-3
 same-length-3 c = search needs
 
 returns-3 : tie.Need-returns-3
-returns-3 c = search needs
+returns-3 c = fitted (c .before .before .before .before .before .before .alt .ensures) (c .before .before .fit .ensures)
 
 pub alt-short-spec : {M : Type 1} → statement M
 alt-short-spec =
@@ -59,6 +64,7 @@ alt-short-spec =
     is-nothing-requires-2
     same-length-2
     returns-2
-    alt-fit-requires
+    alt-requires
+    fit-requires
     same-length-3
     returns-3)

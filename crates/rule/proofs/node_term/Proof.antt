@@ -1,140 +1,22 @@
--- `rule::node_term` meets its contract: one arm a node, each a call whose answer is the node's.
+-- `rule::node_term` meets its contract: what the node made is counted.
 -- Assumes nothing.
-use native.Mathlib.Omega.{arith}
-use Rattle.book.specs.declared.Node.the-variants.{Nothing, Empty, Range, Cat, Alt, Star, Either}
-use Rattle.rule.specs.NodeLaws.{node-within, node-room, cat-asks, alt-asks, star-asks, node-as}
+use Rattle.normal.specs.AnswerLaws.{fitted}
+use Rattle.rule.specs.NodeLaws.{node-counts}
 use borrow.Author.Needs.{needs}
 use Rattle.rule.proofs.node_term.Statement.{statement}
 use Rattle.rule.proofs.node_term.Tie as tie
 
-enum-told : tie.Need-enum-told
-enum-told c = search needs
+node-built-requires : tie.Need-node-built-requires
+node-built-requires c κs = search needs
 
-leaf-requires : tie.Need-leaf-requires
-leaf-requires c κs = search needs
-
-enum-told-2 : tie.Need-enum-told-2
-enum-told-2 c = search needs
-
-leaf-requires-2 : tie.Need-leaf-requires-2
-leaf-requires-2 c κs = search needs
-
-enum-known-node : tie.Need-enum-known-node
-enum-known-node c = search needs
-
-leaf-requires-3 : tie.Need-leaf-requires-3
-leaf-requires-3 c κs =
-    let o = c .before .before .before .before .before .pre in
-    let w = node-within o (Range _ _) (c .before .before .node .given .1) in
-    (o .sound, (node-room o, (omega arith, omega arith)))
-
-enum-told-3 : tie.Need-enum-told-3
-enum-told-3 c = search needs
-
-cat-fit-requires : tie.Need-cat-fit-requires
-cat-fit-requires c κs = cat-asks (c .before .before .before .before .pre) (c .before .enum-told3 .given .1)
-
-enum-told-4 : tie.Need-enum-told-4
-enum-told-4 c = search needs
-
-alt-fit-requires : tie.Need-alt-fit-requires
-alt-fit-requires c κs = alt-asks (c .before .before .before .before .pre) (c .before .enum-told4 .given .1)
-
-enum-told-5 : tie.Need-enum-told-5
-enum-told-5 c = search needs
-
-star-term-requires : tie.Need-star-term-requires
-star-term-requires c κs =
-    let o = c .before .before .before .before .pre in
-    (o .sound, (node-room o, star-asks o (c .before .enum-told5 .given .1)))
-
-enum-known-node-2 : tie.Need-enum-known-node-2
-enum-known-node-2 c = search needs
-
-either-term-requires : tie.Need-either-term-requires
-either-term-requires c κs =
-    let o = c .before .before .before .before .before .pre in
-    let w = node-within o (Either _) (c .before .before .node2 .given .1) in
-    (o .sound, (omega (arith, o .room), (w .0, w .1)))
+fit-requires : tie.Need-fit-requires
+fit-requires c κs = node-counts (c .before .before .before .before .before .before .pre) (c .before .before .before .node-built .ensures)
 
 same-length : tie.Need-same-length
 same-length c = search needs
 
 returns : tie.Need-returns
-returns c =
-    node-as Nothing _ _ (c .before .before .before .before .enum-told .given .1) (c .before .before .leaf .ensures)
-
-same-length-2 : tie.Need-same-length-2
-same-length-2 c = search needs
-
-returns-2 : tie.Need-returns-2
-returns-2 c =
-    node-as Empty _ _ (c .before .before .before .before .enum-told2 .given .1) (c .before .before .leaf2 .ensures)
-
-same-length-3 : tie.Need-same-length-3
-same-length-3 c = search needs
-
-returns-3 : tie.Need-returns-3
-returns-3 c =
-    node-as (Range _ _) _ _ (c .before .before .before .before .before .node .given .1) (c .before .before .leaf3 .ensures)
-
-same-length-4 : tie.Need-same-length-4
-same-length-4 c = search needs
-
-returns-4 : tie.Need-returns-4
-returns-4 c =
-    node-as Cat _ _ (c .before .before .before .before .enum-told3 .given .1) (c .before .before .cat-fit .ensures)
-
-same-length-5 : tie.Need-same-length-5
-same-length-5 c = search needs
-
-returns-5 : tie.Need-returns-5
-returns-5 c =
-    node-as Alt _ _ (c .before .before .before .before .enum-told4 .given .1) (c .before .before .alt-fit .ensures)
-
-same-length-6 : tie.Need-same-length-6
-same-length-6 c = search needs
-
-returns-6 : tie.Need-returns-6
-returns-6 c =
-    node-as Star _ _ (c .before .before .before .before .enum-told5 .given .1) (c .before .before .star-term .ensures)
-
-same-length-7 : tie.Need-same-length-7
-same-length-7 c = search needs
-
-returns-7 : tie.Need-returns-7
-returns-7 c =
-    node-as (Either _) _ _ (c .before .before .before .before .before .node2 .given .1) (c .before .before .either-term .ensures)
+returns c = fitted (c .before .before .before .before .before .before .node-built .ensures) (c .before .before .fit .ensures)
 
 pub node-term-spec : {M : Type 1} → statement M
-node-term-spec =
-    tie.close
-    (tie.spec
-    enum-told
-    leaf-requires
-    enum-told-2
-    leaf-requires-2
-    enum-known-node
-    leaf-requires-3
-    enum-told-3
-    cat-fit-requires
-    enum-told-4
-    alt-fit-requires
-    enum-told-5
-    star-term-requires
-    enum-known-node-2
-    either-term-requires
-    same-length
-    returns
-    same-length-2
-    returns-2
-    same-length-3
-    returns-3
-    same-length-4
-    returns-4
-    same-length-5
-    returns-5
-    same-length-6
-    returns-6
-    same-length-7
-    returns-7)
+node-term-spec = tie.close (tie.spec node-built-requires fit-requires same-length returns)

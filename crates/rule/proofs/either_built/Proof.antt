@@ -1,10 +1,10 @@
--- `rule::either_term` meets its contract: two leaves stored, then the choice of them.
+-- `rule::either_built` meets its contract: two leaves stored, then the choice of them.
 -- Assumes nothing.
 use native.Mathlib.Omega.{arith}
-use Rattle.rule.specs.NodeLaws.{letters-ask, letters-made}
+use Rattle.rule.specs.NodeLaws.{letters-ask, letters-built}
 use borrow.Author.Needs.{needs}
-use Rattle.rule.proofs.either_term.Statement.{statement}
-use Rattle.rule.proofs.either_term.Tie as tie
+use Rattle.rule.proofs.either_built.Statement.{statement}
+use Rattle.rule.proofs.either_built.Tie as tie
 
 sub-capital : tie.Need-sub-capital
 sub-capital c = search needs
@@ -17,8 +17,8 @@ push-requires-2 c κs =
     let p = c .before .before .before .push .ensures in
     (p .makes .grown .sound, (omega (arith, p .after, p .makes .grown .same-length), (omega arith, omega arith)))
 
-alt-fit-requires : tie.Need-alt-fit-requires
-alt-fit-requires c κs =
+alt-requires : tie.Need-alt-requires
+alt-requires c κs =
     letters-ask (c .before .before .before .before .before .before .before .before .before .before .pre .1 .0)
     (c .before .before .before .before .before .before .before .push .ensures) (c .before .before .before .push2 .ensures)
 
@@ -28,11 +28,11 @@ same-length c = search needs
 returns : tie.Need-returns
 returns c =
     let past = c .before .before .before in
-    letters-made (past .before .before .before .before .before .before .before .before .before .before .pre .1 .0)
+    letters-built (past .before .before .before .before .before .before .before .before .before .before .pre .1 .0)
     (past .before .before .before .before .before .before .before .push .ensures) (past .before .before .before .push2 .ensures)
-    (c .before .before .alt-fit .ensures)
+    (c .before .before .alt .ensures)
 
-pub either-term-spec : {M : Type 1} → statement M
-either-term-spec =
+pub either-built-spec : {M : Type 1} → statement M
+either-built-spec =
     tie.close
-    (tie.spec sub-capital push-requires push-requires-2 alt-fit-requires same-length returns)
+    (tie.spec sub-capital push-requires push-requires-2 alt-requires same-length returns)
