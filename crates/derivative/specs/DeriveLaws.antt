@@ -22,9 +22,9 @@ use Rattle.meaning.specs.SizeLaws.{spine, size-some, short-size, short-members,
 use Rattle.term.specs.declared.Term.{Term}
 use Rattle.term.specs.declared.Term.the-variants.{Nothing, Empty, Range, Cat, Alt, Star}
 use Rattle.term.specs.Cells.{grow, term, Below, Sound}
-use Rattle.term.specs.Area.{pending, GrownFree, Room}
+use Rattle.term.specs.Area.{pending, GrownFree, Room, Makes}
 use Rattle.term.specs.Nodes.{kindOf, firstOf, Found}
-use Rattle.term.specs.CellLaws.{sound-less, grown-refl, grown-trans, grown-term}
+use Rattle.term.specs.CellLaws.{sound-less, grown-refl, grown-trans, grown-term, makes-free}
 use Rattle.term.specs.ReadLaws.{first-below, first-size, cat-size, alt-size, star-size}
 use Rattle.normal.specs.declared.Made.{Made}
 use Rattle.normal.specs.declared.Made.the-variants.{Term as Made·term, Long as Made·long}
@@ -247,7 +247,9 @@ two-cells r x y e = omega (arith, cells-size r, cells-size x, cells-size y, size
 -- two derivatives that fit, to choose from
 short-choices : {s : List ℕ} {top a b : ℕ} (x y : Re) → Sound s top → a < top → b < top → term s a ≡ x → term s b ≡ y → InShape x → InShape y
     → short x ≡ true → short y ≡ true → Room s top (2 * mostMembers + pending) → ShortChoices s top a b
-short-choices x y ok h k p q t u v w m =
+short-choices {s} {top} {a} {b} x y ok h k p q t u v w m =
+    let room : Room s top (members (term s a) + members (term s b) + pending) =
+    omega (arith, m, ap members p, ap members q, short-members x v, short-members y w) in
     record {
       choices = record {
         sound = ok;
@@ -255,9 +257,9 @@ short-choices x y ok h k p q t u v w m =
         right = k;
         left-shape = rw p t;
         right-shape = rw q u;
-        room = omega (arith, m, ap members p, ap members q, short-members x v, short-members y w);
+        room = omega arith;
       };
-      count-room = omega (arith, m, ap members p, ap members q, short-members x v, short-members y w);
+      count-room = room;
       left-short = rw p v;
       right-short = rw q w;
     }
@@ -278,17 +280,41 @@ module _ {s : List ℕ} {top i : ℕ} (d : Derives s top i) where
         room = rw same (omega (arith, d .room, g .same-length, room-cells (term s a), room-cells (term s i)));
       }
 
+  -- the first part's derivative is there, to have a held term behind it
+  links-after : (c a : ℕ) {b : ℕ} {s₁ : List ℕ} {da first : ℕ} → Got s top s₁ da first (derivFit c (term s a)) (derivCells (term s a))
+      → derivCells (term s a) + mostMembers + 1 ≤ derivCells (term s i) → b < top → CountedLinks s₁ first da b
+  links-after c a {b} {s₁} {da} {first} g fewer held =
+      let few = short-spine (g .value) (derived-short c (term s a) (g .value) (g .fits)) in
+      let room : Room s₁ first (spine (term s₁ da) + 1 + pending) = omega (
+        arith,
+        ap spine (g .makes .is),
+        few,
+        g .makes .few,
+        g .makes .grown .same-length,
+        d .room,
+        room-cells (term s i),
+      ) in
+      record {
+        links = record {
+          sound = g .makes .grown .sound;
+          left = g .makes .within;
+          right = omega (arith, g .makes .grown .up);
+          room = omega arith;
+        };
+        count-room = room;
+      }
+
   module _ {u : Term} (f : Found s i u) where
     -- a term without parts
     module _ (k : kindOf u < 3) (c : ℕ) {w : Term} (e : w ≡ leafLeft u c) where
       pub leaf-asks : Sound s top × ((top < length s) × Below w top)
       leaf-asks = (d .sound, (omega (arith, d .room, room-cells (term s i), cells-some (term s i)), leaf-below top c u w k e))
 
-      pub leaf-up : {s′ : List ℕ} {r : Made} → MadeBy s top s′ r (Fits (grow w (term s))) 1
-          → MadeBy s top s′ r (derivFit c (term s i)) (derivCells (term s i))
+      pub leaf-up : {s′ : List ℕ} {root top′ : ℕ} → Makes s top s′ root top′ (grow w (term s)) 1
+          → MadeBy s top s′ (Made·term root top′) (derivFit c (term s i)) (derivCells (term s i))
       leaf-up m =
-          made-after 0 (derivCells (term s i)) (derivFit c (term s i)) (grown-refl (d .sound)) (omega arith) m
-          (leaf-fits s c u w k e ∙ sym (ap (derivFit c) (f .is))) (omega (arith, cells-some (term s i)))
+          made-term (derivFit c (term s i)) (derivCells (term s i)) (makes-free pending m)
+          (sym (leaf-fits s c u w k e ∙ sym (ap (derivFit c) (f .is)))) (omega (arith, cells-some (term s i)))
 
     -- the first part, or the only one
     module _ (k : 2 < kindOf u) {a : ℕ} (e : a ≡ firstOf u) where
@@ -329,29 +355,8 @@ module _ {s : List ℕ} {top i : ℕ} (d : Derives s top i) where
       b-stays : term s₁ b ≡ term s b
       b-stays = grown-term b (g .makes .grown) (d .sound) (omega (arith, f .below .1, d .held))
 
-      middle-room : Room s₁ first (spine (term s₁ da) + 1 + pending)
-      middle-room = omega (
-        arith,
-        ap spine (g .makes .is),
-        short-spine (g .value) da-short,
-        g .makes .few,
-        g .makes .grown .same-length,
-        d .room,
-        room-cells (term s i),
-        cat-cells,
-      )
-
       pub cat-middle : CountedLinks s₁ first da b
-      cat-middle =
-          record {
-            links = record {
-              sound = g .makes .grown .sound;
-              left = g .makes .within;
-              right = omega (arith, f .below .1, d .held, g .makes .grown .up);
-              room = omega (arith, middle-room);
-            };
-            count-room = middle-room;
-          }
+      cat-middle = links-after c a g (omega (arith, cat-cells)) (omega (arith, f .below .1, d .held))
 
       middle-is : fit (cat (term s₁ da) (term s₁ b)) ≡ fit (cat (g .value) (term s b))
       middle-is = cc (g .makes .is, b-stays)
@@ -558,29 +563,8 @@ module _ {s : List ℕ} {top i : ℕ} (d : Derives s top i) where
       part-is-short : short (g .value) ≡ true
       part-is-short = derived-short c (term s a) (g .value) (g .fits)
 
-      star-room : Room s₁ first (spine (term s₁ da) + 1 + pending)
-      star-room = omega (
-        arith,
-        ap spine (g .makes .is),
-        short-spine (g .value) part-is-short,
-        g .makes .few,
-        g .makes .grown .same-length,
-        d .room,
-        room-cells (term s i),
-        star-cells,
-      )
-
       pub star-middle : CountedLinks s₁ first da i
-      star-middle =
-          record {
-            links = record {
-              sound = g .makes .grown .sound;
-              left = g .makes .within;
-              right = omega (arith, d .held, g .makes .grown .up);
-              room = omega (arith, star-room);
-            };
-            count-room = star-room;
-          }
+      star-middle = links-after c a g star-cells (d .held)
 
       star-stays : term s₁ i ≡ Re.Star (term s a)
       star-stays = grown-term i (g .makes .grown) (d .sound) (d .held) ∙ f .is

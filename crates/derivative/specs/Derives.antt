@@ -1,5 +1,5 @@
 -- What derive asks of the work area and of its term, how many cells it may use, and what it leaves: its contract is stated with these.
--- A derivative uses at most one cell more than mostMembers a node of its term.
+-- A derivative uses at most one cell more than mostMembers a node of its term, and above these what counting uses.
 use Prim.Native.Nat.{ℕ, _+_, _-_, _*_, _<_}
 use mathlib.Core.Path.{_≡_}
 use mathlib.Core.Bool.{true, cond, _&&_}

@@ -9,7 +9,7 @@ ghost use Rattle.derivative.specs.Derives.{Derives, rangeLeft, leafLeft,
 use choice::alt_short;
 use normal::Made;
 use normal::cat_fit;
-use normal::leaf;
+use normal::store;
 use number::limits::BYTES;
 use term::ALT;
 use term::CAT;
@@ -56,7 +56,8 @@ pub fn derive(cells: &mut [u64], top: usize, i: usize, byte: usize) -> Made
     let node = node_at(cells, i);
     let kind = kind_of(node);
     if kind < CAT {
-        return leaf(cells, top, leaf_left(node, byte));
+        let made = store(cells, top, leaf_left(node, byte));
+        return Made::Term(made.root, made.top);
     }
     let a = first_of(node);
     let Made::Term(da, first) = derive(cells, top, a, byte) else {

@@ -120,8 +120,3 @@ module _ {s : List ℕ} {top : ℕ} {s′ : List ℕ} {made : Built} {more : ℕ
 pub fits-made : {s : List ℕ} {top : ℕ} {s′ : List ℕ} {root top′ more : ℕ} {v : Re} → Makes s top s′ root top′ v more → short (term s′ root) ≡ true
     → MadeBy s top s′ (Term root top′) (fit v) more
 fits-made {v = v} m h = as-term (fit v) (sym (fit-short v (sym (ap short (m .is)) ∙ h))) (makes-free pending m)
-
--- nor a leaf
-pub leaf-made : {s : List ℕ} {top : ℕ} {s′ : List ℕ} {root top′ more : ℕ} {v : Re} → Makes s top s′ root top′ v more
-    → MadeBy s top s′ (Term root top′) (Fits v) more
-leaf-made {v = v} m = as-term (Fits v) refl (makes-free pending m)

@@ -6,7 +6,6 @@ use mathlib.Core.Bool.{cond}
 use mathlib.Core.List.{List}
 use Rattle.meaning.specs.Normal.{chain, cat, star}
 use Rattle.meaning.specs.Limited.{short, fit}
-use Rattle.meaning.specs.Limited.Fit.{Fits}
 use Rattle.meaning.specs.SizeLaws.{spine}
 use Rattle.term.specs.declared.Term.{Term as Node}
 use Rattle.term.specs.Cells.{grow, term}
@@ -20,10 +19,6 @@ use Rattle.normal.specs.Made.{MadeBy}
 -- a node is stored
 abbrev pub Stores : List ℕ → ℕ → Node → List ℕ → Built → Type 0
 Stores s top u s′ r = Makes s top s′ (r .root) (r .top) (grow u (term s)) 1
-
--- a node stored as an answer
-abbrev pub Leaf : List ℕ → ℕ → Node → List ℕ → Made → Type 0
-Leaf s top u s′ r = MadeBy s top s′ r (Fits (grow u (term s))) 1
 
 abbrev pub Chains : List ℕ → ℕ → ℕ → ℕ → List ℕ → Built → Type 0
 Chains s top a b s′ r = Makes s top s′ (r .root) (r .top) (chain (term s a) (term s b)) (spine (term s a) + 1)

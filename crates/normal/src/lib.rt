@@ -5,7 +5,7 @@ ghost use lib.ListN.{length};
 ghost use Rattle.term.specs.Cells.{Below, Sound};
 ghost use Rattle.term.specs.Counts.{Countable};
 ghost use Rattle.normal.specs.Asked.{Links, CountedLinks};
-ghost use Rattle.normal.specs.Builds.{Stores, Leaf, Chains, Cats, Stars, Fitted, CatFits};
+ghost use Rattle.normal.specs.Builds.{Stores, Chains, Cats, Stars, Fitted, CatFits};
 use term::CAT;
 use term::Term;
 
@@ -33,17 +33,6 @@ pub fn store(cells: &mut [u64], top: usize, node: Term) -> Built
         root: top,
         top: next,
     }
-}
-
-// A leaf as an answer.
-pub fn leaf(cells: &mut [u64], top: usize, node: Term) -> Made
-    requires { ⌜ Sound (now cells) top ⌝ }
-    requires { ⌜ top < length (now cells) ⌝ }
-    requires { ⌜ Below node top ⌝ }
-    ensures { λ r. ⌜ Leaf (now (cells .entry)) top node (now (cells .exit)) r ⌝ }
-{
-    let made = store(cells, top, node);
-    Made::Term(made.root, made.top)
 }
 
 // Puts `b` behind the last link of the chain `a`.

@@ -18,7 +18,7 @@ use Rattle.book.specs.Book.{takes}
 use Rattle.book.specs.Valid.{Within}
 use Rattle.term.specs.declared.Term.the-variants.{Range as RangeNode}
 use Rattle.term.specs.Cells.{term}
-use Rattle.term.specs.Area.{Room}
+use Rattle.term.specs.Area.{pending, Room}
 use Rattle.term.specs.Nodes.{Pushed}
 use Rattle.term.specs.Counts.{Countable}
 use Rattle.term.specs.CellLaws.{grown-trans, grown-term, makes-more, makes-as, makes-after}
@@ -125,8 +125,9 @@ module _ {n : Node} {s : List ℕ} {top a b : ℕ} (o : Operands n s top a b) wh
       go (Either x) q = omega arith
 
   -- and its result may be counted
-  pub node-counts : {s′ : List ℕ} {made : Built} → NodeBuilt n s top a b s′ made → Countable s′ (made .top) (made .root)
-  node-counts m = made-counts m (omega (arith, o .room, node-few))
+  pub node-counts : Room s top (nodeRoom + pending) → {s′ : List ℕ} {made : Built} → NodeBuilt n s top a b s′ made
+      → Countable s′ (made .top) (made .root)
+  node-counts room m = made-counts m (omega (arith, node-few))
 
 -- another name of the node
 pub node-as : {n : Node} (m : Node) {s : List ℕ} {top : ℕ} (a b : ℕ) {s′ : List ℕ} {r : Built} → n ≡ m → NodeBuilt m s top a b s′ r

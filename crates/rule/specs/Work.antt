@@ -79,7 +79,7 @@ nodeRoom = 2 * mostMembers
 -- a node and the two numbers on top of the stack, of which those that it takes are items
 pub record Operands (n : Node) (s : List ℕ) (top a b : ℕ) : Type 0 where
   pub sound : Sound s top
-  pub room : Room s top (nodeRoom + pending)
+  pub room : Room s top nodeRoom
   pub good : Within n
   pub below : 2 ≤ takes n → Item s top a
   pub first : 1 ≤ takes n → Item s top b

@@ -1,10 +1,10 @@
 // The normal form of a rule, built in the work area from the rule's nodes as they stand in the book's bytes.
 // The nodes are worked off with a stack of cells; each result is counted, and one that is too long ends the work.
-ghost use Prim.Native.Nat.{_≤_};
+ghost use Prim.Native.Nat.{_+_, _≤_};
 ghost use Rattle.number.specs.Limits.{firstLetter, lastLetter, scratch};
 ghost use Rattle.term.specs.Cells.{Sound};
-ghost use Rattle.term.specs.Area.{Room};
-ghost use Rattle.rule.specs.Work.{Has, RuleMade, eitherCells, Operands, EitherBuilt, NodeBuilt, NodeMade};
+ghost use Rattle.term.specs.Area.{pending, Room};
+ghost use Rattle.rule.specs.Work.{Has, RuleMade, eitherCells, nodeRoom, Operands, EitherBuilt, NodeBuilt, NodeMade};
 ghost use Rattle.rule.specs.Work.{Working, Worked};
 use book::Node;
 use book::NodeRead;
@@ -48,6 +48,7 @@ fn node_built(cells: &mut [u64], top: usize, node: Node, a: usize, b: usize) -> 
 // The same with the limit: all that a node makes is counted here.
 fn node_term(cells: &mut [u64], top: usize, node: Node, a: usize, b: usize) -> Made
     requires { ⌜ Operands node (now cells) top a b ⌝ }
+    requires { ⌜ Room (now cells) top (nodeRoom + pending) ⌝ }
     ensures { λ r. ⌜ NodeMade node (now (cells .entry)) top a b (now (cells .exit)) r ⌝ }
 {
     let made = node_built(cells, top, node, a, b);

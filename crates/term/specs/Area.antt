@@ -8,7 +8,7 @@ use Rattle.number.specs.Limits.{treeNodes}
 use Rattle.meaning.specs.Re.{Re}
 use Rattle.term.specs.Cells.{term, Sound}
 
--- the cells above the top that counting a term may use: a place that is still to be counted for each node that may be
+-- the cells above the top that counting a term may use: one place for each node that may be counted
 abbrev pub pending : ℕ
 pending = treeNodes
 
@@ -41,6 +41,6 @@ pub record MakesFree (free : ℕ) (s : List ℕ) (top : ℕ) (s′ : List ℕ) (
   pub is : term s′ root ≡ v
   pub few : top′ ≤ top + more
 
--- likewise
+-- where no cell above the new top has changed
 abbrev pub Makes : List ℕ → ℕ → List ℕ → ℕ → ℕ → Re → ℕ → Type 0
 Makes s top s′ root top′ v more = MakesFree 0 s top s′ root top′ v more

@@ -1,13 +1,13 @@
 -- Laws of cells, proved: a stored node is read back, and a term below top stays what it is however the cells above change.
--- Callers go by `found`, `frame` and the laws of Grown and Makes; none looks into a cell.
+-- Callers go by `found`, `frame` and the laws of growth and of what was made; none looks into a cell.
 use Prim.Native.Nat.{ℕ, zero, suc, _+_, _%_, _<_, _≤_}
 use native.Mathlib.Omega.{arith}
-use native.Mathlib.Decide.{decLt}
 use mathlib.Core.Path.{_≡_, refl, ap, _∙_}
 use mathlib.Core.List.{List}
 use mathlib.Core.Logic.{_≢_}
 use lib.ListN.{length, getD, set, length-set}
 use lib.Seq.{getD-set-same, getD-set-other}
+use borrow.Author.Count.{below-more}
 use Rattle.number.specs.Limits.{lastByte, workCells}
 use Rattle.meaning.specs.Re.{Re, isNothing, isEmpty}
 use Rattle.term.specs.declared.Term.{Term}
@@ -257,10 +257,6 @@ makes-kept {free} {s} {s′} {s″} {top} {top′} {root} after m g h =
 
 -- ---- a stored node
 
--- what holds below top and at top holds below the next
-below-next : (P : ℕ → Type 0) (top i : ℕ) → i < top + 1 → (i < top → P i) → P top → P i
-below-next P top i h f p = elim (decLt i top) [ yes k ↦ f k | no k ↦ let e : top ≡ i = omega arith in rw e at p ]
-
 pub pushed : (s : List ℕ) (top : ℕ) (u : Term) (s′ : List ℕ) (next : ℕ) → Sound s top → top < length s → Below u top
     → s′ ≡ set s top (cellOf u) → next ≡ top + 1 → Pushed s top u s′ next
 pushed s top u s′ next ok h b e n =
@@ -271,7 +267,7 @@ pushed s top u s′ next ok h b e n =
     let long : length s′ ≡ length s = rw e (length-set s top (cellOf u)) in
     let same : Same s s′ top = λ i k. other i (λ z. omega arith) in
     let sound : Sound s′ next = record {
-      nodes = λ i k. below-next (λ (j : ℕ). Below (nodeOf (getD s′ j 0)) j) top i (omega arith) (λ l. rw (same i l) (ok .nodes i l)) (rw node b);
+      nodes = λ i k. below-more (λ (j : ℕ). Below (nodeOf (getD s′ j 0)) j) top (λ j l. rw (same j l) (ok .nodes j l)) (rw node b) i (omega arith);
       room = omega arith;
       small = omega arith;
     } in

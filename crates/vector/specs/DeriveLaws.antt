@@ -28,7 +28,7 @@ use Rattle.normal.specs.declared.Made.{Made}
 use Rattle.normal.specs.declared.Made.the-variants.{Long as Made·long}
 use Rattle.normal.specs.Made.{MadeBy}
 use Rattle.derivative.specs.Derives.{derivRoom, derivCells, Derives}
-use Rattle.normal.specs.AnswerLaws.{Got, long-is}
+use Rattle.normal.specs.AnswerLaws.{Got, long-is, long-wasted}
 use Rattle.walk.specs.Vectors.{Vector, front, derived}
 use Rattle.walk.specs.Vectors.Vector.{TooLong, Terms}
 use Rattle.walk.specs.Parts.{withParts, withVector, Part, InPool}
@@ -236,7 +236,7 @@ module _ {x s : List ℕ} {top n : ℕ} {v : List ℕ} {byte : ℕ} {x₁ s₁ :
   module _ {s₂ : List ℕ} {r : Made} (m : MadeBy s₁ next s₂ r (derivFit byte (term s₁ (getD v i 0))) (derivCells (term s₁ (getD v i 0))))
       (e : r ≡ Made·long) where
     wasted : Wasted s₁ next s₂ (next + derivCells (term s₁ (getD v i 0)) + pending)
-    wasted = rw (e, long-is m e) at (m .answers)
+    wasted = long-wasted m e
 
     pub place-spared : Spared s top s₂
     place-spared = spared-on s₂ (wasted .same-length) (wasted .kept-below) (λ j k. wasted .kept-above j (omega (arith, used)))

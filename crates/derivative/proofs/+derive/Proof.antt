@@ -23,7 +23,7 @@ use Rattle.derivative.proofs.+derive.Lts-derive as derive-lts
 use Rattle.derivative.proofs.leaf_left.Reads as leaf-left-reads
 use Rattle.choice.proofs.alt_short.Reads as alt-short-reads
 use Rattle.normal.proofs.cat_fit.Reads as cat-fit-reads
-use Rattle.normal.proofs.leaf.Reads as leaf-reads
+use Rattle.normal.proofs.store.Reads as store-reads
 use Rattle.term.proofs.first_of.Reads as first-of-reads
 use Rattle.term.proofs.kind_of.Reads as kind-of-reads
 use Rattle.term.proofs.node_at.Reads as node-at-reads
@@ -50,8 +50,8 @@ K t = (
   kind-of-reads.Learnt,
   leaf-left-reads.Asked,
   leaf-left-reads.Learnt,
-  leaf-reads.Asked,
-  leaf-reads.Learnt,
+  store-reads.Asked,
+  store-reads.Learnt,
   first-of-reads.Asked,
   first-of-reads.Learnt,
   derive-below t,
@@ -112,14 +112,14 @@ module _ (t : ℕ) where
       (derivCells (term (c .before .before .before .before .before .before .before .before .before .before .before .before .before .before .cat-fit2 .last .0) (c .before .before .before .before .before .before .before .before .before .before .before .before .before .before .before .before .before .second-of .result)))
   db2 c = got (c .before .before .before .before .derive3 .ensures) (c .db2 .given .1)
 
-  leaf-requires : derive-lts.Need-leaf-requires (K t) (derive-at t) derive.Post
-  leaf-requires c κs =
+  store-requires : derive-lts.Need-store-requires (K t) (derive-at t) derive.Post
+  store-requires c κs =
       leaf-asks (c .before .before .before .before .before .before .before .pre .1) (node (c .before .before .before)) (omega (arith, c .before .before .before .kind-of .ensures)) (c .before .before .before .before .before .before .before .args .byte) (c .leaf-left .ensures)
 
   returns : derive-lts.Need-returns (K t) (derive-at t) derive.Post
   returns c =
       leaf-up (c .before .before .before .before .before .before .before .before .before .before .pre .1) (node (c .before .before .before .before .before .before)) (omega (arith, c .before .before .before .before .before .before .kind-of .ensures)) (c .before .before .before .before .before .before .before .before .before .before .args .byte) (c .before .before .before .leaf-left .ensures)
-      (c .before .before .leaf .ensures)
+      (c .before .before .store .ensures)
 
   derive-requires : derive-lts.Need-derive-requires (K t) (derive-at t) derive.Post
   derive-requires c κs = (
@@ -198,7 +198,7 @@ module _ (t : ℕ) where
 
 pub +derive-spec : {M : Type 1} → statement M
 +derive-spec = close μ-derive λ t. derive-lts.spec (K t) (derive-at t) derive.Post
-    (λ c κs. search needs) (λ c κs. search needs) (λ c κs. search needs) (leaf-requires t) (λ c. search needs) (returns t)
+    (λ c κs. search needs) (λ c κs. search needs) (λ c κs. search needs) (store-requires t) (λ c. search needs) (returns t)
     (λ c κs. search needs) (derive-requires t) (λ c. search needs) (λ c. search needs) (λ c. search needs) (returns-2 t)
     (cat-fit-requires t) (λ c. search needs) (returns-3 t) (λ c κs. search needs) (derive-requires-2 t) (λ c. search needs)
     (λ c. search needs) (λ c. search needs) (returns-4 t) (alt-short-requires t) (λ c. search needs) (returns-5 t)

@@ -75,7 +75,9 @@ module _ (t : ℕ) where
       (sym (c .before .before .read-node .ensures) ∙ ap nodeRead (c .enum-told .given .1)))
 
   node-term-requires : work-lts.Need-node-term-requires (K t) (work-at t) work.Post
-  node-term-requires c κs = step-asks (start-of (c .before) .pre .1) (step-of (c .before) _ refl) refl refl
+  node-term-requires c κs =
+      let w = start-of (c .before) .pre .1 in
+      (step-asks w (step-of (c .before) _ refl) refl refl, omega (arith, w .room))
 
   returns-3 : work-lts.Need-returns-3 (K t) (work-at t) work.Post
   returns-3 c =

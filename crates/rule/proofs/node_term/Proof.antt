@@ -10,7 +10,9 @@ node-built-requires : tie.Need-node-built-requires
 node-built-requires c κs = search needs
 
 fit-requires : tie.Need-fit-requires
-fit-requires c κs = node-counts (c .before .before .before .before .before .before .pre) (c .before .before .before .node-built .ensures)
+fit-requires c κs =
+    let pre = c .before .before .before .before .before .before .pre in
+    node-counts (pre .0) (pre .1) (c .before .before .before .node-built .ensures)
 
 same-length : tie.Need-same-length
 same-length c = search needs

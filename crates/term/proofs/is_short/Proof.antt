@@ -58,15 +58,18 @@ same-length : tie.Need-same-length Inv-loop μ-loop
 same-length c = invariant (c .before .before) .wasted .same-length
 
 returns : tie.Need-returns Inv-loop μ-loop
-returns c = told-short (asked (c .before .before)) (invariant (c .before .before)) (some (c .before .before)) (told (c .before .before)) (leaf (c .before)) (c .if2 .taken)
+returns c =
+    let turn = c .before .before in
+    told-short (asked turn) (invariant turn) (some turn) (told turn) (leaf (c .before)) (omega (arith, c .if2 .taken))
 
 sub-end : tie.Need-sub-end Inv-loop μ-loop
 sub-end c = search needs
 
 mul-at : tie.Need-mul-at Inv-loop μ-loop
 mul-at c =
-    let inside = last-inside (asked (c .before .before)) (invariant (c .before .before)) (some (c .before .before)) (told (c .before .before)) (leaf (c .before)) (c .if2 .left) in
-    omega (arith, asked (c .before .before) .sound .small, invariant (c .before .before) .wasted .same-length)
+    let turn = c .before .before in
+    let inside = last-inside (asked turn) (invariant turn) (some turn) (told turn) (leaf (c .before)) (c .if2 .left) in
+    omega (arith, asked turn .sound .small, invariant turn .wasted .same-length)
 
 slice-read-at : tie.Need-slice-read-at Inv-loop μ-loop
 slice-read-at c =
