@@ -108,9 +108,6 @@ module _ (t : List ℕ) (from end : ℕ) (room : end ≤ length t) where
   pub part-short : length (writeRuns (runsOf (slice from end t))) ≤ 6 * (end - from)
   part-short = omega (arith, runs-short (runsOf (slice from end t)), part-few)
 
-  pub part-row-short : length (writeRow (slice from end t)) ≤ 3 + 6 * (end - from)
-  part-row-short = omega (arith, row-short (slice from end t), length-slice from end t room)
-
 pub runs-written-none : (t : List ℕ) (from end : ℕ) (s : List ℕ) (at : ℕ) → from ≡ end
     → Writes (writeRuns (runsOf (slice from end t))) s s at at
 runs-written-none t from end s at e = rw (part-none t from end e) (writes-none s at)

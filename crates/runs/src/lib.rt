@@ -30,10 +30,13 @@ fn count_runs(targets: &[u8], from: usize, end: usize) -> usize
     requires { ⌜ (from ≤ end) × (end ≤ length (now targets)) ⌝ }
     ensures { λ n. ⌜ n ≡ length (runsOf (slice from end (now (targets .entry)))) ⌝ }
 {
-    if end <= from {
-        return 0;
+    let mut count: usize = 0;
+    let mut start = from;
+    while start < end {
+        start = run_end(targets, start, end);
+        count += 1;
     }
-    1 + count_runs(targets, run_end(targets, from, end), end)
+    count
 }
 
 // How many bytes these runs take.
@@ -41,12 +44,14 @@ fn runs_length(targets: &[u8], from: usize, end: usize) -> usize
     requires { ⌜ (from ≤ end) × (end ≤ from + bytes) × (end ≤ length (now targets)) ⌝ }
     ensures { λ n. ⌜ n ≡ length (writeRuns (runsOf (slice from end (now (targets .entry))))) ⌝ }
 {
-    if end <= from {
-        return 0;
+    let mut len: usize = 0;
+    let mut start = from;
+    while start < end {
+        let stop = run_end(targets, start, end);
+        len += number::number_width(stop - start) + number::number_width(targets[start] as usize);
+        start = stop;
     }
-    let stop = run_end(targets, from, end);
-    let run = number::number_width(stop - from) + number::number_width(targets[from] as usize);
-    run + runs_length(targets, stop, end)
+    len
 }
 
 // How many bytes a row takes.
@@ -65,13 +70,15 @@ fn write_runs(targets: &[u8], from: usize, end: usize, out: &mut [u8], at: usize
     ensures { λ next. ⌜ Writes (writeRuns (runsOf (slice from end (now (targets .entry)))))
         (now (out .entry)) (now (out .exit)) at next ⌝ }
 {
-    if end <= from {
-        return at;
+    let mut start = from;
+    let mut next = at;
+    while start < end {
+        let stop = run_end(targets, start, end);
+        let at_target = number::write_number(stop - start, out, next);
+        next = number::write_number(targets[start] as usize, out, at_target);
+        start = stop;
     }
-    let stop = run_end(targets, from, end);
-    let at_target = number::write_number(stop - from, out, at);
-    let next = number::write_number(targets[from] as usize, out, at_target);
-    write_runs(targets, stop, end, out, next)
+    next
 }
 
 // A row: its count of runs, then the runs.

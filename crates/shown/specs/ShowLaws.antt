@@ -3,15 +3,15 @@
 use Prim.Native.Nat.{ℕ, zero, suc, _+_, _-_, _<_, _≤_}
 use mathlib.Core.Path.{_≡_, refl, sym, ap, subst, _∙_}
 use mathlib.Core.Bool.{Bool, true, false, cond}
-use mathlib.Core.List.{List, [], _∷_, _++_}
+use mathlib.Core.List.{List, [], _∷_, _++_, append-assoc}
 use native.Mathlib.Numerals.{add-one}
 use native.Mathlib.Nat.{zero-add}
 use native.Mathlib.Omega.{arith}
 use borrow.Author.Tests.{eq-eqb, ne-eqb}
 use lib.Dec.{eqb}
-use lib.ListN.{length, getD, drop, set, replicate, drop-of-length-le}
+use lib.ListN.{length, getD, drop, set, replicate, length-append, length-set, drop-of-length-le}
 use lib.Seq.{drop-cons}
-use Rattle.number.specs.Lists.{written, written-length, written-more, stored-one, Writes}
+use Rattle.number.specs.Lists.{written, drop-written, stored-one, Writes, writes-none}
 use Rattle.meaning.specs.Re.{Text}
 use Rattle.meaning.specs.Rules.{label}
 use Rattle.table.specs.Table.{Table}
@@ -67,7 +67,7 @@ module _ (s : List ℕ) (n count : ℕ) (labels : List ℕ) where
 -- ---- the text
 
 -- a text is no longer than the steps back that were allowed for it
-text-short : (f : ℕ) (s : List ℕ) (k : ℕ) → length (textBy f s k) ≤ f
+pub text-short : (f : ℕ) (s : List ℕ) (k : ℕ) → length (textBy f s k) ≤ f
 unfolding textBy
 text-short zero s k = omega arith
 text-short (suc f) s k = go (eqb k 0) (text-short f s (getD s (parentsAt + k) 0))
@@ -97,13 +97,20 @@ text-enough (suc f) zero s count k ok h l m = let e : k ≡ 0 = omega arith in r
 text-enough (suc f) (suc g) s count k ok h l m =
     text-cases f g s k (λ o. ok .parents k o h) (λ j o. text-enough f g s count j ok (omega arith) (omega arith) (omega arith))
 
-text-next : (s : List ℕ) (k : ℕ) → Traced s (k + 1) → (k ≡ 0 → ⊥) → textOf s k ≡ textOf s (getD s (parentsAt + k) 0) ++ (getD s (bytesAt + k) 0 ∷ [])
-text-next s zero ok d = absurd (d refl)
-text-next s (suc k) ok d =
-    let p = ok .parents (suc k) (omega arith) (omega arith) in
-    text-step k s (suc k) d
+text-next : {s : List ℕ} {count : ℕ} (k : ℕ) → Traced s count → 0 < k → k < count
+    → textOf s k ≡ textOf s (getD s (parentsAt + k) 0) ++ (getD s (bytesAt + k) 0 ∷ [])
+text-next zero ok some inside = absurd (omega arith)
+text-next {s} {count} (suc k) ok some inside =
+    let p = ok .parents (suc k) some inside in
+    text-step k s (suc k) (λ z. omega arith)
     ∙ ap (λ (u : Text). u ++ (getD s (bytesAt + suc k) 0 ∷ []))
-    (text-enough k (getD s (parentsAt + suc k) 0) s (suc k + 1) (getD s (parentsAt + suc k) 0) ok (omega arith) (omega arith) (omega arith))
+    (text-enough k (getD s (parentsAt + suc k) 0) s count (getD s (parentsAt + suc k) 0) ok (omega arith) (omega arith) (omega arith))
+
+-- a step back is a byte
+pub text-longer : {s : List ℕ} {count : ℕ} (k : ℕ) → Traced s count → 0 < k → k < count
+    → length (textOf s k) ≡ suc (length (textOf s (getD s (parentsAt + k) 0)))
+text-longer {s} k ok some inside =
+    ap length (text-next k ok some inside) ∙ length-snoc (textOf s (getD s (parentsAt + k) 0)) (getD s (bytesAt + k) 0)
 
 pub traced-less : {s : List ℕ} {count : ℕ} (count′ : ℕ) → Traced s count → count′ ≤ count → Traced s count′
 traced-less count′ ok h = record {
@@ -113,39 +120,56 @@ traced-less count′ ok h = record {
   text-bytes = λ k l. ok .text-bytes k (omega arith);
 }
 
-pub text-none : (s area : List ℕ) (k : ℕ) → k ≡ 0 → Writes (textOf s k) area area 0 0
+-- a run of bytes in front of one that was written before it
+written-back : (s v w : List ℕ) → length v ≤ length s → written (written s (length v) w) 0 v ≡ written s 0 (v ++ w)
 unfolding written
-text-none s area k e = record { place = rw (e, first-text 0 s); out = rw (e, first-text 0 s) }
+written-back s v w h =
+    ap (λ (n : ℕ). v ++ drop n (written s (length v) w)) (zero-add (length v))
+    ∙ ap (λ (l : List ℕ). v ++ l) (drop-written s (length v) w h)
+    ∙ simp (length-append, append-assoc, zero-add)
 
--- the parent's text was written: there is a place for the byte after it, and with it the text is whole
-pub record Nearly (s : List ℕ) (k : ℕ) (area area₁ : List ℕ) (at : ℕ) : Type 0 where
-  pub below : at < k
-  pub room : at < length area₁
-  pub whole : Writes (textOf s k) area (set area₁ at (getD s (bytesAt + k) 0)) 0 (at + 1)
+-- as a text is written from its end to its front: the area lacks the text of an item, of so many bytes, and with it has what was asked
+pub record Lacks (s : List ℕ) (k : ℕ) (asked area : List ℕ) (item left : ℕ) : Type 0 where
+  pub before : item ≤ k
+  pub text : left ≡ length (textOf s item)
+  pub same : length area ≡ length asked
+  pub whole : written area 0 (textOf s item) ≡ written asked 0 (textOf s k)
 
-module _ (s : List ℕ) (k : ℕ) (ok : Traced s (k + 1)) (some : k ≡ 0 → ⊥) (area : List ℕ) (enough : k ≤ length area) (area₁ : List ℕ) (at : ℕ)
-    (done : Writes (textOf s (getD s (parentsAt + k) 0)) area area₁ 0 at) where
-  abbrev parent : ℕ
-  parent = getD s (parentsAt + k) 0
+pub lacks-all : (s : List ℕ) (k : ℕ) (area : List ℕ) (len : ℕ) → len ≡ length (textOf s k) → Lacks s k area area k len
+lacks-all s k area len e = record { before = omega arith; text = e; same = refl; whole = refl }
 
-  short : at < k
-  short = omega (arith, done .place, text-short parent s parent, ok .parents k (omega arith) (omega arith))
+module _ {s : List ℕ} {k : ℕ} {asked area : List ℕ} {item left : ℕ} (l : Lacks s k asked area item left) where
+  pub lacks-none : (len : ℕ) → item ≡ 0 → len ≡ length (textOf s k) → Writes (textOf s k) asked area 0 len
+  lacks-none len e size =
+      let last : written area 0 (textOf s item) ≡ area = rw (e, first-text 0 s) (sym (writes-none area 0 .out)) in
+      record { place = omega (arith, size); out = sym last ∙ l .whole }
 
-  same : length area₁ ≡ length area
-  same = ap length (done .out) ∙ written-length area 0 (textOf s parent) (omega (arith, short, done .place))
+  module _ (ok : Traced s (k + 1)) (enough : k ≤ length asked) (some : 0 < item) where
+    abbrev parent : ℕ
+    parent = getD s (parentsAt + item) 0
 
-  pub text-nearly : Nearly s k area area₁ at
-  text-nearly = record {
-    below = short;
-    room = omega (arith, short, same);
-    whole = record {
-      place = omega (arith, done .place, ap length (text-next s k ok some), length-snoc (textOf s parent) (getD s (bytesAt + k) 0));
-      out =
-          stored-one area₁ at (getD s (bytesAt + k) 0) (omega (arith, short, same))
-          ∙ rw (done .place, done .out)
-          (written-more area 0 (textOf s parent) (getD s (bytesAt + k) 0 ∷ []) (omega arith) ∙ ap (written area 0) (sym (text-next s k ok some)));
-    };
-  }
+    shorter : left ≡ suc (length (textOf s parent))
+    shorter = l .text ∙ text-longer item ok some (omega (arith, l .before))
+
+    -- there is a last byte, and a place for it
+    pub lacks-place : (0 < left) × (left ≤ length area)
+    lacks-place = (omega (arith, shorter), omega (arith, l .text, l .before, l .same, text-short item s item))
+
+    pub lacks-next : Lacks s k asked (set area (left - 1) (getD s (bytesAt + item) 0)) parent (left - 1)
+    lacks-next =
+        let byte : ℕ = getD s (bytesAt + item) 0 in
+        let place : left - 1 ≡ length (textOf s parent) = omega (arith, shorter) in
+        let stored : set area (left - 1) byte ≡ written area (length (textOf s parent)) (byte ∷ []) =
+        stored-one area (left - 1) byte (omega (arith, lacks-place)) ∙ ap (λ (n : ℕ). written area n (byte ∷ [])) place in
+        record {
+          before = omega (arith, ok .parents item some (omega (arith, l .before)), l .before);
+          text = place;
+          same = simp length-set (l .same);
+          whole =
+              ap (λ (t : List ℕ). written t 0 (textOf s parent)) stored
+              ∙ written-back area (textOf s parent) (byte ∷ []) (omega (arith, place, lacks-place))
+              ∙ ap (written area 0) (sym (text-next item ok some (omega (arith, l .before)))) ∙ l .whole;
+        }
 
 -- ---- the answer
 

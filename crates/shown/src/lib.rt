@@ -1,5 +1,6 @@
 // What is shown once the walk is finished: the first pair whose labels differ, by the shortest, lowest text that leads to it.
 // The text is read back from item to item, each with the byte that led to it.
+ghost use mathlib.Core.Path.{_≡_};
 ghost use Prim.Native.Nat.{_+_, _≤_};
 ghost use lib.ListN.{length};
 ghost use Rattle.number.specs.Lists.{Writes};
@@ -34,19 +35,36 @@ fn first_differing<'a>(cells: &'a [u64], n: usize, count: usize, labels: &'a [u8
     Seen::Alike
 }
 
-// Writes the text of item `k` to the front of the area and answers its length: the text of the item it was found from, and then the byte.
+// How long the text of item `k` is: a byte for each step back to the entry.
+fn text_length(cells: &[u64], k: usize) -> usize
+    requires { ⌜ Traced (now cells) (k + 1) ⌝ }
+    ensures { λ n. ⌜ n ≡ length (textOf (now (cells .entry)) k) ⌝ }
+{
+    let mut item = k;
+    let mut len: usize = 0;
+    while 0 < item {
+        item = cells[PARENTS_AT + item] as usize;
+        len += 1;
+    }
+    len
+}
+
+// Writes the text of item `k` to the front of the area and answers its length.
+// The last byte is found first, so the text is written from its end to its front.
 fn write_text(cells: &[u64], k: usize, area: &mut [u8]) -> usize
     requires { ⌜ Traced (now cells) (k + 1) ⌝ }
     requires { ⌜ k ≤ length (now area) ⌝ }
     ensures { λ r. ⌜ Writes (textOf (now (cells .entry)) k) (now (area .entry)) (now (area .exit)) 0 r ⌝ }
 {
-    if k == 0 {
-        return 0;
+    let len = text_length(cells, k);
+    let mut item = k;
+    let mut left = len;
+    while 0 < item {
+        left -= 1;
+        area[left] = cells[BYTES_AT + item] as u8;
+        item = cells[PARENTS_AT + item] as usize;
     }
-    let parent = cells[PARENTS_AT + k] as usize;
-    let at = write_text(cells, parent, area);
-    area[at] = cells[BYTES_AT + k] as u8;
-    at + 1
+    len
 }
 
 // What is answered once the walk is finished, with the text written if there is one.

@@ -21,13 +21,15 @@ fn states_length<'a>(count: usize, i: usize, labels: &'a [u8], targets: &'a [u8]
     ensures { λ n. ⌜ n ≡ length (writeStates (slice i count (now (labels .entry)))
         (slice (i * bytes) (count * bytes) (now (targets .entry)))) ⌝ }
 {
-    if count <= i {
-        return 0;
+    let mut len: usize = 0;
+    let mut state = i;
+    while state < count {
+        let cell = state * BYTES;
+        len += number::number_width(labels[state] as usize)
+            + runs::row_length(targets, cell, cell + BYTES);
+        state += 1;
     }
-    let cell = i * BYTES;
-    let state = number::number_width(labels[i] as usize)
-        + runs::row_length(targets, cell, cell + BYTES);
-    state + states_length(count, i + 1, labels, targets)
+    len
 }
 
 // How many bytes the sheet takes.
@@ -56,13 +58,15 @@ fn write_states<'a>(
         (slice (i * bytes) (count * bytes) (now (targets .entry))))
         (now (out .entry)) (now (out .exit)) at next ⌝ }
 {
-    if count <= i {
-        return at;
+    let mut state = i;
+    let mut next = at;
+    while state < count {
+        let cell = state * BYTES;
+        let at_row = number::write_number(labels[state] as usize, out, next);
+        next = runs::write_row(targets, cell, cell + BYTES, out, at_row);
+        state += 1;
     }
-    let cell = i * BYTES;
-    let at_row = number::write_number(labels[i] as usize, out, at);
-    let next = runs::write_row(targets, cell, cell + BYTES, out, at_row);
-    write_states(count, i + 1, labels, targets, out, next)
+    next
 }
 
 // A table is written as its sheet, if it is well formed and the sheet has room.
