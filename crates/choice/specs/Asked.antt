@@ -25,28 +25,30 @@ mostMembers = (treeNodes + 1) / 2
 unfoldable pub altCells : Re → Re → ℕ
 altCells a b = cond (isNothing a || isNothing b) 0 (members (alt a b) - 1)
 
--- two terms to choose from
+-- two terms to choose from, each of which fits
 pub record Choices (s : List ℕ) (top a b : ℕ) : Type 0 where
   pub sound : Sound s top
   pub left : a < top
   pub right : b < top
   pub left-shape : InShape (term s a)
   pub right-shape : InShape (term s b)
+  pub left-short : short (term s a) ≡ true
+  pub right-short : short (term s b) ≡ true
   pub room : Room s top (members (term s a) + members (term s b))
 
--- each of which fits, with room to count what comes of them
+-- with room to count what comes of them
 pub record ShortChoices (s : List ℕ) (top a b : ℕ) : Type 0 where
   pub choices : Choices s top a b
   pub count-room : Room s top (members (term s a) + members (term s b) + pending)
-  pub left-short : short (term s a) ≡ true
-  pub right-short : short (term s b) ≡ true
 
--- two choices to go along, neither of which is Nothing
+-- two choices to go along, each of which fits, and neither of which is Nothing
 pub record Meets (s : List ℕ) (a b : ℕ) : Type 0 where
   pub left-sound : Sound s (a + 1)
   pub right-sound : Sound s (b + 1)
   pub left-shape : InShape (term s a)
   pub right-shape : InShape (term s b)
+  pub left-short : short (term s a) ≡ true
+  pub right-short : short (term s b) ≡ true
   pub left-some : isNothing (term s a) ≡ false
   pub right-some : isNothing (term s b) ≡ false
 

@@ -2,10 +2,11 @@
 -- The merge stands in a cell already, or it is a member before what is left, with no more cells to look at than before.
 use Prim.Native.Nat.{ℕ, _+_, _<_, _≤_}
 use mathlib.Core.Path.{_≡_}
-use mathlib.Core.Bool.{false, cond}
+use mathlib.Core.Bool.{true, false, cond}
 use mathlib.Core.List.{List}
 use lib.Dec.{eqb}
-use Rattle.meaning.specs.Re.{Re, isNothing}
+use Rattle.meaning.specs.Re.{Re, size, isNothing}
+use Rattle.meaning.specs.Limited.{short}
 use Rattle.meaning.specs.Shape.{InShape, isAlt, united}
 use Rattle.meaning.specs.ShapeLaws.{headOf}
 use Rattle.term.specs.declared.Term.{Term}
@@ -19,10 +20,11 @@ use Rattle.choice.specs.Asked.{members}
 abbrev pub headAt : Term → ℕ → ℕ
 headAt u i = cond (eqb (kindOf u) 4) (firstOf u) i
 
--- the first member of a choice, at the choice's own number or below it
+-- the first member of a choice, at the choice's own number or below it, and of no more nodes than the choice
 pub record Heads (s : List ℕ) (i r : ℕ) : Type 0 where
   pub is : term s r ≡ headOf (term s i)
   pub low : r ≤ i
+  pub small : size (term s r) ≤ size (term s i)
 
 -- the merge is in a cell
 pub record Stands (s : List ℕ) (a b root : ℕ) : Type 0 where
@@ -43,6 +45,8 @@ pub record Leads (s : List ℕ) (a b first left right : ℕ) : Type 0 where
   pub falls : left + right < a + b
   pub left-shape : InShape (term s left)
   pub right-shape : InShape (term s right)
+  pub left-short : short (term s left) ≡ true
+  pub right-short : short (term s right) ≡ true
   pub left-some : isNothing (term s left) ≡ false
   pub right-some : isNothing (term s right) ≡ false
   pub fewer : members (term s left) + members (term s right) < members (term s a) + members (term s b)

@@ -4,19 +4,21 @@ use Prim.Native.Nat.{ℕ, _+_, _<_, Ordering, Ordering·lt, Ordering·eq, Orderi
 use native.Mathlib.Omega.{arith}
 use native.Mathlib.Decide.{ℕ-discrete}
 use mathlib.Core.Path.{_≡_, refl, sym, ap, _∙_}
-use mathlib.Core.Bool.{false}
+use mathlib.Core.Bool.{true, false}
 use mathlib.Core.List.{List}
 use borrow.Author.Tests.{eq-eqb, ne-eqb}
 use Rattle.meaning.specs.Re.{Re}
+use Rattle.meaning.specs.Limited.{short}
 use Rattle.meaning.specs.Order.{order}
 use Rattle.meaning.specs.Shape.{InShape, isAlt}
 use Rattle.meaning.specs.ShapeLaws.{headOf, united-less-one, united-less-more, united-same-one, united-same-left, united-same-more, united-greater-one, united-greater-more}
+use Rattle.meaning.specs.SizeLaws.{part-short}
 use Rattle.term.specs.declared.Term.{Term}
 use Rattle.term.specs.declared.Term.the-variants.{Alt}
 use Rattle.term.specs.Cells.{term, Sound}
 use Rattle.term.specs.Nodes.{kindOf, firstOf, Found}
 use Rattle.term.specs.CellLaws.{sound-less}
-use Rattle.term.specs.ReadLaws.{found-alt}
+use Rattle.term.specs.ReadLaws.{alt-size, found-alt}
 use Rattle.choice.specs.Asked.{members, Meets}
 use Rattle.choice.specs.Merge.{headAt, Heads, Stands, Pairs, Leads}
 use Rattle.choice.specs.NodeLaws.{found-no-alt, members-alt}
@@ -44,20 +46,27 @@ heads {s} {i} {r} {u} f e = elim (ℕ-discrete (kindOf u) 4) [
 ]
   where
     left : {x y : ℕ} → Found s i (Alt x y) → r ≡ x → Heads s i r
-    left g d = let h = g .below .0 in record { is = ap (term s) d ∙ sym (ap headOf (g .is)); low = omega arith }
+    left {x} {y} g d =
+        let h = g .below .0 in
+        record {
+          is = ap (term s) d ∙ sym (ap headOf (g .is));
+          low = omega arith;
+          small = rw d (omega (arith, alt-size s i x y g));
+        }
 
     self : isAlt (term s i) ≡ false → r ≡ i → Heads s i r
-    self n d = record { is = ap (term s) d ∙ alone (term s i) n; low = omega arith }
+    self n d = record { is = ap (term s) d ∙ alone (term s i) n; low = omega arith; small = rw d (omega arith) }
 
 -- a choice by its node
 record Splits (s : List ℕ) (i h y : ℕ) : Type 0 where
   is : term s i ≡ Re.Alt (term s h) (term s y)
   in-shape : InShape (Re.Alt (term s h) (term s y))
   low : y < i
+  is-short : short (term s y) ≡ true
   more : members (term s i) ≡ 1 + members (term s y)
 
-splits : (s : List ℕ) (i x y h : ℕ) → Found s i (Alt x y) → Heads s i h → InShape (term s i) → Splits s i h y
-splits s i x y h f d ok =
+splits : (s : List ℕ) (i x y h : ℕ) → Found s i (Alt x y) → Heads s i h → InShape (term s i) → short (term s i) ≡ true → Splits s i h y
+splits s i x y h f d ok fits =
     let e : term s h ≡ term s x = d .is ∙ ap headOf (f .is) in
     let is : term s i ≡ Re.Alt (term s h) (term s y) = cc (f .is) in
     let shaped : InShape (Re.Alt (term s h) (term s y)) = rw is at ok in
@@ -65,14 +74,18 @@ splits s i x y h f d ok =
       is = is;
       in-shape = shaped;
       low = f .below .1;
+      is-short = part-short (term s i) (term s y) fits (omega (arith, alt-size s i x y f));
       more = ap members is ∙ members-alt (term s h) (term s y) (shaped .2 .no-choice);
     }
 
 -- ---- the returns
 
 module _ {s : List ℕ} {a b : ℕ} (m : Meets s a b) {h k : ℕ} (p : Heads s a h) (q : Heads s b k) where
-  pub heads-sound : Sound s (h + 1) × Sound s (k + 1)
-  heads-sound = (sound-less (h + 1) (m .left-sound) (omega (arith, p .low)), sound-less (k + 1) (m .right-sound) (omega (arith, q .low)))
+  pub heads-ask : Sound s (h + 1) × (Sound s (k + 1) × (short (term s h) ≡ true))
+  heads-ask = (
+    sound-less (h + 1) (m .left-sound) (omega (arith, p .low)),
+    (sound-less (k + 1) (m .right-sound) (omega (arith, q .low)), part-short (term s a) (term s h) (m .left-short) (p .small)),
+  )
 
   heads-order : {o : Ordering} → order (term s h) (term s k) ≡ o → order (headOf (term s a)) (headOf (term s b)) ≡ o
   heads-order e = cc (p .is, q .is)
@@ -105,7 +118,7 @@ module _ {s : List ℕ} {a b : ℕ} (m : Meets s a b) {h k : ℕ} (p : Heads s a
   -- the first goes on
   module _ {x y : ℕ} (f : Found s a (Alt x y)) where
     left-splits : Splits s a h y
-    left-splits = splits s a x y h f p (m .left-shape)
+    left-splits = splits s a x y h f p (m .left-shape) (m .left-short)
 
     pub less-more : order (term s h) (term s k) ≡ Ordering·lt → Leads s a b h y b
     less-more e =
@@ -118,6 +131,8 @@ module _ {s : List ℕ} {a b : ℕ} (m : Meets s a b) {h k : ℕ} (p : Heads s a
           falls = omega (arith, d .low);
           left-shape = d .in-shape .1;
           right-shape = m .right-shape;
+          left-short = d .is-short;
+          right-short = m .right-short;
           left-some = d .in-shape .2 .right-some;
           right-some = m .right-some;
           fewer = omega (arith, d .more);
@@ -135,7 +150,7 @@ module _ {s : List ℕ} {a b : ℕ} (m : Meets s a b) {h k : ℕ} (p : Heads s a
   -- the second goes on
   module _ {x y : ℕ} (g : Found s b (Alt x y)) where
     right-splits : Splits s b k y
-    right-splits = splits s b x y k g q (m .right-shape)
+    right-splits = splits s b x y k g q (m .right-shape) (m .right-short)
 
     pub greater-more : order (term s h) (term s k) ≡ Ordering·gt → Leads s a b k a y
     greater-more e =
@@ -148,6 +163,8 @@ module _ {s : List ℕ} {a b : ℕ} (m : Meets s a b) {h k : ℕ} (p : Heads s a
           falls = omega (arith, d .low);
           left-shape = m .left-shape;
           right-shape = d .in-shape .1;
+          left-short = m .left-short;
+          right-short = d .is-short;
           left-some = m .left-some;
           right-some = d .in-shape .2 .right-some;
           fewer = omega (arith, d .more);
@@ -165,6 +182,8 @@ module _ {s : List ℕ} {a b : ℕ} (m : Meets s a b) {h k : ℕ} (p : Heads s a
         falls = omega (arith, d .low, e .low);
         left-shape = d .in-shape .1;
         right-shape = e .in-shape .1;
+        left-short = d .is-short;
+        right-short = e .is-short;
         left-some = d .in-shape .2 .right-some;
         right-some = e .in-shape .2 .right-some;
         fewer = omega (arith, d .more, e .more);

@@ -44,6 +44,8 @@ module _ {s : List ℕ} {top a b : ℕ} (l : Unites s top a b) where
         right-sound = sound-less (b + 1) (l .choices .sound) (omega (arith, l .choices .right));
         left-shape = l .choices .left-shape;
         right-shape = l .choices .right-shape;
+        left-short = l .choices .left-short;
+        right-short = l .choices .right-short;
         left-some = l .left-some;
         right-some = l .right-some;
       }
@@ -80,6 +82,8 @@ module _ {s : List ℕ} {top a b : ℕ} (l : Unites s top a b) where
             right = low .1 .1;
             left-shape = t .left-shape;
             right-shape = t .right-shape;
+            left-short = t .left-short;
+            right-short = t .right-short;
             room = omega (arith, l .choices .room, t .fewer);
           };
           left-some = t .left-some;

@@ -7,8 +7,6 @@ use mathlib.Core.Bool.{Bool, true, false, cond, _&&_, _||_}
 use mathlib.Core.List.{List}
 use lib.Dec.{leb}
 use lib.ListN.{length}
-use borrow.Author.Tests.{le-leb}
-use Rattle.number.specs.Limits.{treeNodes}
 use Rattle.number.specs.Branch.{by-cond}
 use Rattle.meaning.specs.Re.{Re, size, isNothing, isEmpty}
 use Rattle.meaning.specs.Normal.{cat, alt}
@@ -18,7 +16,7 @@ use Rattle.meaning.specs.Limited.Fit.{Long, Fits}
 use Rattle.meaning.specs.LimitedLaws.{deriv-short}
 use Rattle.meaning.specs.Shape.{InShape}
 use Rattle.meaning.specs.ShapeLaws.{shape-cat, shape-deriv, cat-members}
-use Rattle.meaning.specs.SizeLaws.{spine, size-some, short-size, short-members, short-spine}
+use Rattle.meaning.specs.SizeLaws.{spine, size-some, short-members, short-spine, part-short}
 use Rattle.term.specs.declared.Term.{Term}
 use Rattle.term.specs.declared.Term.the-variants.{Nothing, Empty, Range, Cat, Alt, Star}
 use Rattle.term.specs.Cells.{grow, term, Below, Sound}
@@ -213,9 +211,6 @@ first-is-long c s i (Cat l r) f h a e x = ap (derivFit c) (f .is) ∙ cat-long-1
 first-is-long c s i (Alt l r) f h a e x = ap (derivFit c) (f .is) ∙ alt-long-1 c (term s l) (term s r) (rw e at x)
 first-is-long c s i (Star l) f h a e x = ap (derivFit c) (f .is) ∙ star-long-1 c (term s l) (rw e at x)
 
-part-short : (r x : Re) → short r ≡ true → size x ≤ size r → short x ≡ true
-part-short r x e h = le-leb (size x) treeNodes (omega (arith, short-size r e))
-
 -- cells as they are counted
 room-of : (r : Re) (n : ℕ) → size r ≡ n → derivRoom r ≡ (mostMembers + 1) * n + pending
 unfolding derivRoom
@@ -257,11 +252,11 @@ short-choices {s} {top} {a} {b} x y ok h k p q t u v w m =
         right = k;
         left-shape = rw p t;
         right-shape = rw q u;
+        left-short = rw p v;
+        right-short = rw q w;
         room = omega arith;
       };
       count-room = room;
-      left-short = rw p v;
-      right-short = rw q w;
     }
 
 module _ {s : List ℕ} {top i : ℕ} (d : Derives s top i) where

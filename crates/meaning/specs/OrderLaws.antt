@@ -50,7 +50,7 @@ also-turned Ordering·lt p = refl
 also-turned Ordering·eq p = refl
 also-turned Ordering·gt p = refl
 
-also-assoc : (o p q : Ordering) → also (also o p) q ≡ also o (also p q)
+pub also-assoc : (o p q : Ordering) → also (also o p) q ≡ also o (also p q)
 also-assoc Ordering·lt p q = refl
 also-assoc Ordering·eq p q = refl
 also-assoc Ordering·gt p q = refl
@@ -192,7 +192,7 @@ order-spelt (differ x y h) k l =
     rw (spelt-rank x k, spelt-rank y l)
     (also-differ (dict (rest x k) (rest y l)) (dict k l) h (compared (rank x) (rank y)) ∙ order-differ x y (dict k l) h)
 
-also-eq : (o : Ordering) → also o Ordering·eq ≡ o
+pub also-eq : (o : Ordering) → also o Ordering·eq ≡ o
 also-eq Ordering·lt = refl
 also-eq Ordering·eq = refl
 also-eq Ordering·gt = refl

@@ -5,7 +5,7 @@ use native.Mathlib.Omega.{arith}
 use mathlib.Core.Path.{_≡_, refl}
 use mathlib.Core.Bool.{true}
 use lib.ListN.{length, length-append}
-use borrow.Author.Tests.{leb-true}
+use borrow.Author.Tests.{leb-true, le-leb}
 use Rattle.number.specs.Limits.{treeNodes}
 use Rattle.meaning.specs.Re.{Re, size}
 use Rattle.meaning.specs.Re.Re.{Nothing, Empty, Range, Cat, Alt, Star}
@@ -57,6 +57,9 @@ short-members r e = omega (arith, members-size r, short-size r e)
 
 pub short-spine : (r : Re) → short r ≡ true → spine r ≤ treeNodes / 2
 short-spine r e = omega (arith, spine-size r, short-size r e)
+
+pub part-short : (r x : Re) → short r ≡ true → size x ≤ size r → short x ≡ true
+part-short r x e h = le-leb (size x) treeNodes (omega (arith, short-size r e))
 
 -- of a chain: its size is that of a Cat, and its links are those of both sides and one more
 pub chain-size : (a b : Re) → size (chain a b) ≡ 1 + size a + size b

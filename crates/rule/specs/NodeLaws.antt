@@ -7,7 +7,7 @@ use mathlib.Core.Bool.{Bool, true, false, cond, _||_}
 use mathlib.Core.List.{List}
 use lib.ListN.{length}
 use Rattle.number.specs.Limits.{capital}
-use Rattle.meaning.specs.Re.{Re, isNothing}
+use Rattle.meaning.specs.Re.{Re, size, isNothing}
 use Rattle.meaning.specs.Normal.{gathered, alt}
 use Rattle.meaning.specs.Limited.{short, fit}
 use Rattle.meaning.specs.Limited.Fit.{Long, Fits}
@@ -43,7 +43,7 @@ module _ {s s1 s2 : List ℕ} {top second third x : ℕ} (room : Room s top eith
   letter-small = q .makes .is
 
   pub letters-ask : Choices s2 third top second
-  unfolding gathered
+  unfolding gathered size
   letters-ask =
       record {
         sound = q .makes .grown .sound;
@@ -51,6 +51,8 @@ module _ {s s1 s2 : List ℕ} {top second third x : ℕ} (room : Room s top eith
         right = omega (arith, q .after);
         left-shape = rw letter-large tt;
         right-shape = rw letter-small tt;
+        left-short = rw letter-large refl;
+        right-short = rw letter-small refl;
         room =
             rw (letter-large, letter-small)
             (omega (arith, p .after, q .after, p .makes .grown .same-length, q .makes .grown .same-length));
@@ -97,6 +99,8 @@ module _ {n : Node} {s : List ℕ} {top a b : ℕ} (o : Operands n s top a b) wh
         right = x .1 .low;
         left-shape = x .0 .in-shape;
         right-shape = x .1 .in-shape;
+        left-short = x .0 .is-short;
+        right-short = x .1 .is-short;
         room = omega (arith, o .room, short-members (term s a) (x .0 .is-short), short-members (term s b) (x .1 .is-short));
       }
 

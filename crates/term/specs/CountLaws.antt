@@ -21,7 +21,7 @@ use Rattle.term.specs.ReadLaws.{first-below, second-below, leaf-size, st
 
 -- ---- the sizes that wait
 
-sizes-same : (s l l′ : List ℕ) (top n : ℕ) → ((j : ℕ) → j < top + n → getD l′ j 0 ≡ getD l j 0) → sizes s l′ top n ≡ sizes s l top n
+pub sizes-same : (s l l′ : List ℕ) (top n : ℕ) → ((j : ℕ) → j < top + n → getD l′ j 0 ≡ getD l j 0) → sizes s l′ top n ≡ sizes s l top n
 unfolding sizes
 sizes-same s l l′ top zero same = refl
 sizes-same s l l′ top (suc n) same = rw (same (top + n) (omega arith), sizes-same s l l′ top n (λ j h. same j (omega arith)))
@@ -30,7 +30,7 @@ sizes-none : (s l : List ℕ) (top end : ℕ) → end ≡ top → sizes s l top 
 unfolding sizes
 sizes-none s l top end e = let none : end - top ≡ 0 = omega arith in rw (none, sizes)
 
-sizes-last : (s l : List ℕ) (top end : ℕ) → top < end
+pub sizes-last : (s l : List ℕ) (top end : ℕ) → top < end
     → sizes s l top (end - top) ≡ size (term s (getD l (end - 1) 0)) + sizes s l top (end - 1 - top)
 unfolding sizes
 sizes-last s l top end h =

@@ -1,6 +1,6 @@
 -- Laws for the functions that read a term off its nodes, one for each of their returns: size, the empty text, order.
 -- Each says what the term's answer is by the answers of its children, over what reading the node told.
-use Prim.Native.Nat.{ℕ, zero, suc, _+_, _<_, _≤_, compare, Ordering, Ordering·lt, Ordering·eq, Ordering·gt, compare·zero-zero, compare·zero-suc, compare·suc-zero, compare·suc-suc}
+use Prim.Native.Nat.{ℕ, zero, suc, _+_, _<_, _≤_, compare, Ordering·lt, Ordering·eq, Ordering·gt, compare·zero-zero, compare·zero-suc, compare·suc-zero, compare·suc-suc}
 use native.Mathlib.Omega.{arith}
 use native.Mathlib.Decide.{decLt}
 use mathlib.Core.Path.{_≡_, refl, sym, _∙_}
@@ -215,11 +215,6 @@ found-alt {s} {i} {u} {x} {y} f e p q = found-as (Alt x y) f (rw (p, q) (of-kind
 pub found-star : {s : List ℕ} {i : ℕ} {u : Term} {x : ℕ} → Found s i u → kindOf u ≡ 5 → x ≡ firstOf u → Found s i (Star x)
 found-star {s} {i} {u} {x} f e p = found-as (Star x) f (rw p (of-kind u 5 e))
 
-order-ranges : (u v : Term) (f : ℕ → Re) (a b a′ b′ : ℕ) → u ≡ Range a b → v ≡ Range a′ b′
-    → order (grow u f) (grow v f) ≡ also (compare a a′) (compare b b′)
-unfolding order
-order-ranges u v f a b a′ b′ d e = rw (d, e)
-
 order-cats : (u v : Term) (f : ℕ → Re) (a b a′ b′ : ℕ) → u ≡ Cat a b → v ≡ Cat a′ b′
     → order (grow u f) (grow v f) ≡ also (order (f a) (f a′)) (order (f b) (f b′))
 unfolding order
@@ -235,14 +230,17 @@ order-stars : (u v : Term) (f : ℕ → Re) (a a′ : ℕ) → u ≡ Star a → 
 unfolding order
 order-stars u v f a a′ d e = rw (d, e)
 
-order-leaves : (u v : Term) (f : ℕ → Re) → kindOf u ≡ kindOf v → kindOf u < 2 → order (grow u f) (grow v f) ≡ Ordering·eq
+-- a leaf by its bounds, which are 0 where it has none
+order-leaves : (u v : Term) (f : ℕ → Re) (a b a′ b′ : ℕ) → kindOf u ≡ kindOf v → kindOf u < 3
+    → a ≡ firstOf u → b ≡ secondOf u → a′ ≡ firstOf v → b′ ≡ secondOf v
+    → order (grow u f) (grow v f) ≡ also (compare a a′) (compare b b′)
 unfolding order
-order-leaves Nothing v f e h = rw rank-grow (compare-same 0 (kindOf v) e)
-order-leaves Empty v f e h = rw rank-grow (compare-same 1 (kindOf v) e)
-order-leaves (Range lo hi) v f e h = absurd (omega arith)
-order-leaves (Cat a b) v f e h = absurd (omega arith)
-order-leaves (Alt a b) v f e h = absurd (omega arith)
-order-leaves (Star a) v f e h = absurd (omega arith)
+order-leaves Nothing v f a b a′ b′ e h p q p′ q′ = let d : v ≡ Nothing = of-kind v 0 (sym e) in rw (p, q, p′, q′, d)
+order-leaves Empty v f a b a′ b′ e h p q p′ q′ = let d : v ≡ Empty = of-kind v 1 (sym e) in rw (p, q, p′, q′, d)
+order-leaves (Range lo hi) v f a b a′ b′ e h p q p′ q′ = let d : v ≡ Range a′ b′ = rw (p′, q′) (of-kind v 2 (sym e)) in rw (p, q, d)
+order-leaves (Cat l r) v f a b a′ b′ e h p q p′ q′ = absurd (omega arith)
+order-leaves (Alt l r) v f a b a′ b′ e h p q p′ q′ = absurd (omega arith)
+order-leaves (Star l) v f a b a′ b′ e h p q p′ q′ = absurd (omega arith)
 
 -- a term by itself
 pub order-one : (s : List ℕ) (i j : ℕ) → i ≡ j → order (term s i) (term s j) ≡ Ordering·eq
@@ -261,27 +259,21 @@ module _ (s : List ℕ) (i j : ℕ) (u v : Term) (x : Found s i u) (y : Found s 
   order-more h =
       by-nodes ∙ ranks-more (grow u (term s)) (grow v (term s)) (rw (rank-grow u, rank-grow v) (compare-more (kindOf u) (kindOf v) h))
 
-  pub order-leaf : kindOf u ≡ kindOf v → kindOf u < 2 → order (term s i) (term s j) ≡ Ordering·eq
-  order-leaf e h = by-nodes ∙ order-leaves u v (term s) e h
-
   -- the parts come as the code has them, each with what it is
-  pub order-range : kindOf u ≡ kindOf v → kindOf u ≡ 2 → {a b a′ b′ : ℕ} → a ≡ firstOf u → b ≡ secondOf u → a′ ≡ firstOf v → b′ ≡ secondOf v
-      → also (compare a a′) (compare b b′) ≡ order (term s i) (term s j)
-  order-range e h {a} {b} {a′} {b′} p q p′ q′ =
-      sym (by-nodes ∙ order-ranges u v (term s) a b a′ b′ (rw (p, q) (of-kind u 2 h)) (rw (p′, q′) (of-kind v 2 (sym e ∙ h))))
+  pub order-leaf : kindOf u ≡ kindOf v → kindOf u < 3 → {a b a′ b′ : ℕ} → a ≡ firstOf u → b ≡ secondOf u → a′ ≡ firstOf v → b′ ≡ secondOf v
+      → order (term s i) (term s j) ≡ also (compare a a′) (compare b b′)
+  order-leaf e h {a} {b} {a′} {b′} p q p′ q′ = by-nodes ∙ order-leaves u v (term s) a b a′ b′ e h p q p′ q′
 
   pub order-star : kindOf u ≡ kindOf v → kindOf u ≡ 5 → {a a′ : ℕ} → a ≡ firstOf u → a′ ≡ firstOf v
-      → order (term s a) (term s a′) ≡ order (term s i) (term s j)
-  order-star e h {a} {a′} p p′ =
-      sym (by-nodes ∙ order-stars u v (term s) a a′ (rw p (of-kind u 5 h)) (rw p′ (of-kind v 5 (sym e ∙ h))))
+      → order (term s i) (term s j) ≡ order (term s a) (term s a′)
+  order-star e h {a} {a′} p p′ = by-nodes ∙ order-stars u v (term s) a a′ (rw p (of-kind u 5 h)) (rw p′ (of-kind v 5 (sym e ∙ h)))
 
   pub order-pair : kindOf u ≡ kindOf v → 2 < kindOf u → (kindOf u ≡ 5 → ⊥)
       → {a b a′ b′ : ℕ} → a ≡ firstOf u → b ≡ secondOf u → a′ ≡ firstOf v → b′ ≡ secondOf v
-      → {o : Ordering} → o ≡ order (term s a) (term s a′) → also o (order (term s b) (term s b′)) ≡ order (term s i) (term s j)
-  order-pair e h n {a} {b} {a′} {b′} p q p′ q′ d =
-      rw d
-      (sym (by-nodes ∙ elim (decLt (kindOf u) 4) [
+      → order (term s i) (term s j) ≡ also (order (term s a) (term s a′)) (order (term s b) (term s b′))
+  order-pair e h n {a} {b} {a′} {b′} p q p′ q′ =
+      by-nodes ∙ elim (decLt (kindOf u) 4) [
         | yes k ↦ order-cats u v (term s) a b a′ b′ (rw (p, q) (of-kind u 3 (omega arith))) (rw (p′, q′) (of-kind v 3 (omega arith)))
         | no k ↦ order-alts u v (term s) a b a′ b′ (rw (p, q) (of-kind u 4 (omega (arith, kind-most u)))) (rw (p′, q′)
             (of-kind v 4 (omega (arith, kind-most u))))
-      ]))
+      ]

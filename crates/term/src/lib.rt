@@ -1,13 +1,16 @@
 // Terms in a lent work area of cells: nodes read and stored, counted, tested for the empty text, compared.
-// A node is an enum by value; a child's number is below its parent's, so every recursion ends.
+// A node is an enum by value; a child's number is below its parent's, so that going down ends.
 ghost use mathlib.Core.Path.{_≡_};
+ghost use mathlib.Core.Bool.{true};
 ghost use Prim.Native.Nat.{_+_, _<_, compare};
 ghost use lib.ListN.{length, getD};
 ghost use Rattle.meaning.specs.Derive.{nullable as matchesEmpty};
 ghost use Rattle.meaning.specs.Order.{order, also};
+ghost use Rattle.meaning.specs.Limited.{short};
 ghost use Rattle.term.specs.Cells.{fieldSize, kindSize, packed, nodeOf, cellOf, term, Below, Sound};
 ghost use Rattle.term.specs.Nodes.{kindOf, firstOf, secondOf, nothingNode, emptyNode, ordering, Fields, Pushed};
 ghost use Rattle.term.specs.Counts.{Countable, ShortTold};
+ghost use Rattle.term.specs.Compares.{decides, Glanced};
 use number::limits::TREE_NODES;
 use number::limits::WORK_CELLS;
 
@@ -33,14 +36,15 @@ const KIND_SIZE: u64 = 8;
 
 const FIELD_SIZE: u64 = WORK_CELLS as u64;
 
-// The places of kinds in the order: those before a range have no parts, and those from Cat on have children.
-const RANGE: usize = 2;
-
+// The places of kinds in the order: those from Cat on have children.
 pub const CAT: usize = 3;
 
 pub const ALT: usize = 4;
 
 pub const STAR: usize = 5;
+
+// The most pairs of places that wait while two terms are compared: for each a node was seen, and one is still to be seen.
+const WAITING: usize = (TREE_NODES + 1) / 2;
 
 // The node of a cell.
 fn unpack(cell: u64) -> Term
@@ -253,38 +257,106 @@ fn compare_pairs(a: usize, b: usize, c: usize, d: usize) -> Order
     }
 }
 
-// The order of two terms. Terms of one number are one term; kinds decide first, then parts from left to right.
-pub fn compare_terms(cells: &[u64], i: usize, j: usize) -> Order
+// Whether a comparison found a difference.
+fn differs(order: Order) -> bool
+    ensures { λ r. ⌜ r ≡ decides (ordering order) ⌝ }
+{
+    match order {
+        Order::Less => true,
+        Order::Equal => false,
+        Order::Greater => true,
+    }
+}
+
+// What two nodes tell of the order of their terms: it is known, or it is that of their only children, or that of their first children
+// and then, where these are equal, of their second ones.
+enum Glance {
+    Told(Order),
+    One(usize, usize),
+    Two(usize, usize, usize, usize),
+}
+
+// Looks at the nodes of two terms. Terms of one number are one term; kinds decide first, then parts.
+fn compare_nodes(cells: &[u64], i: usize, j: usize) -> Glance
     requires { ⌜ Sound (now cells) (i + 1) ⌝ }
     requires { ⌜ Sound (now cells) (j + 1) ⌝ }
-    ensures { λ r. ⌜ ordering r ≡ order (term (now (cells .entry)) i) (term (now (cells .entry)) j) ⌝ }
+    ensures { λ r. ⌜ Glanced (now (cells .entry)) i j r ⌝ }
 {
     if i == j {
-        return Order::Equal;
+        return Glance::Told(Order::Equal);
     }
     let x = node_at(cells, i);
     let y = node_at(cells, j);
     let kind = kind_of(x);
     let other = kind_of(y);
     if kind < other {
-        return Order::Less;
+        return Glance::Told(Order::Less);
     }
     if other < kind {
-        return Order::Greater;
+        return Glance::Told(Order::Greater);
     }
-    if kind < RANGE {
-        return Order::Equal;
+    if kind < CAT {
+        return Glance::Told(compare_pairs(first_of(x), second_of(x), first_of(y), second_of(y)));
     }
-    if kind == RANGE {
-        return compare_pairs(first_of(x), second_of(x), first_of(y), second_of(y));
-    }
-    let left = compare_terms(cells, first_of(x), first_of(y));
     if kind == STAR {
-        return left;
+        return Glance::One(first_of(x), first_of(y));
     }
-    match left {
-        Order::Less => Order::Less,
-        Order::Equal => compare_terms(cells, second_of(x), second_of(y)),
-        Order::Greater => Order::Greater,
+    Glance::Two(first_of(x), first_of(y), second_of(x), second_of(y))
+}
+
+// Compares two terms, gone through in step from left to right: where two nodes have two children each, the places of the second ones
+// are listed, to be compared when the first ones were found equal.
+fn compare_parts(cells: &[u64], i: usize, j: usize) -> Order
+    requires { ⌜ Sound (now cells) (i + 1) ⌝ }
+    requires { ⌜ Sound (now cells) (j + 1) ⌝ }
+    requires { ⌜ short (term (now cells) i) ≡ true ⌝ }
+    ensures { λ r. ⌜ ordering r ≡ order (term (now (cells .entry)) i) (term (now (cells .entry)) j) ⌝ }
+{
+    let mut left = [0u16; WAITING];
+    let mut right = [0u16; WAITING];
+    let mut waiting = 0usize;
+    let mut a = i;
+    let mut b = j;
+    loop {
+        let glance = compare_nodes(cells, a, b);
+        match glance {
+            Glance::Told(order) => {
+                if waiting == 0 {
+                    return order;
+                }
+                if differs(order) {
+                    return order;
+                }
+                waiting -= 1;
+                a = left[waiting] as usize;
+                b = right[waiting] as usize;
+            }
+            Glance::One(c, d) => {
+                a = c;
+                b = d;
+            }
+            Glance::Two(c, d, e, f) => {
+                left[waiting] = e as u16;
+                right[waiting] = f as u16;
+                waiting += 1;
+                a = c;
+                b = d;
+            }
+        }
+    }
+}
+
+// The order of two terms. Most are told apart by a glance; only what is not goes on to the parts, and needs the list.
+pub fn compare_terms(cells: &[u64], i: usize, j: usize) -> Order
+    requires { ⌜ Sound (now cells) (i + 1) ⌝ }
+    requires { ⌜ Sound (now cells) (j + 1) ⌝ }
+    requires { ⌜ short (term (now cells) i) ≡ true ⌝ }
+    ensures { λ r. ⌜ ordering r ≡ order (term (now (cells .entry)) i) (term (now (cells .entry)) j) ⌝ }
+{
+    let glance = compare_nodes(cells, i, j);
+    match glance {
+        Glance::Told(order) => order,
+        Glance::One(_, _) => compare_parts(cells, i, j),
+        Glance::Two(_, _, _, _) => compare_parts(cells, i, j),
     }
 }

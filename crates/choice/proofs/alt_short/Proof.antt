@@ -21,7 +21,7 @@ returns : tie.Need-returns
 returns c =
     let p = c .before .before .before .before .before .pre in
     let x = found _ _ _ _ (p .choices .sound) (p .choices .left) (c .before .before .node-at .ensures) in
-    fits-made (alt-none-left (p .choices) (told-nothing x (c .before .is-nothing .ensures) (c .if1 .taken))) (p .right-short)
+    fits-made (alt-none-left (p .choices) (told-nothing x (c .before .is-nothing .ensures) (c .if1 .taken))) (p .choices .right-short)
 
 node-at-requires-2 : tie.Need-node-at-requires-2
 node-at-requires-2 c κs = search needs
@@ -36,7 +36,7 @@ returns-2 : tie.Need-returns-2
 returns-2 c =
     let p = c .before .before .before .before .before .before .before .before .before .pre in
     let y = found _ _ _ _ (p .choices .sound) (p .choices .right) (c .before .before .node-at2 .ensures) in
-    fits-made (alt-none-right (p .choices) (told-nothing y (c .before .is-nothing2 .ensures) (c .if2 .taken))) (p .left-short)
+    fits-made (alt-none-right (p .choices) (told-nothing y (c .before .is-nothing2 .ensures) (c .if2 .taken))) (p .choices .left-short)
 
 alt-requires : tie.Need-alt-requires
 alt-requires c κs = search needs

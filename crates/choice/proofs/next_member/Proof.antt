@@ -8,7 +8,7 @@ use Rattle.term.specs.CellLaws.{found}
 use Rattle.term.specs.ReadLaws.{found-alt}
 use Rattle.choice.specs.Merge.{Heads}
 use Rattle.choice.specs.NodeLaws.{told-order}
-use Rattle.choice.specs.MergeLaws.{heads, heads-sound, less-one, less-more, same-one, same-left, same-more, greater-one, greater-more}
+use Rattle.choice.specs.MergeLaws.{heads, heads-ask, less-one, less-more, same-one, same-left, same-more, greater-one, greater-more}
 use borrow.Author.Needs.{needs}
 use Rattle.choice.proofs.next_member.Statement.{statement}
 use Rattle.choice.proofs.next_member.Tie as tie
@@ -62,7 +62,7 @@ head-of-requires-2 : tie.Need-head-of-requires-2
 head-of-requires-2 c κs = search needs
 
 compare-terms-requires : tie.Need-compare-terms-requires
-compare-terms-requires c κs = heads-sound (c .before .before .before .before .before .pre) (p c) (q c)
+compare-terms-requires c κs = heads-ask (c .before .before .before .before .before .pre) (p c) (q c)
 
 enum-told : tie.Need-enum-told
 enum-told c = search needs
