@@ -1,26 +1,30 @@
--- Laws for unite and alt: what a step of the merge asks of a callee, and what was made.
--- A step stores at most one node, and its choice has one member more than the rest.
+-- Laws for unite and alt: what a step of the merge asks and tells, and what was made.
+-- A step lists at most one member, and its choice has one member more than the rest.
 use Prim.Native.Nat.{ℕ, _+_, _-_, _<_, _≤_}
 use native.Mathlib.Omega.{arith}
 use mathlib.Core.Path.{_≡_, refl, sym, ap, _∙_}
 use mathlib.Core.Bool.{Bool, true, false, cond, _||_}
 use mathlib.Core.List.{List}
-use lib.ListN.{length}
+use lib.ListN.{length, set, length-set}
+use lib.Seq.{getD-set-other}
 use Rattle.meaning.specs.Re.{Re, isNothing}
 use Rattle.meaning.specs.Normal.{alt}
 use Rattle.meaning.specs.Shape.{InShape, united}
 use Rattle.meaning.specs.ShapeLaws.{alt-united, alt-members, alt-nothing-left, alt-nothing-right, united-members}
 use Rattle.meaning.specs.Tests.{is-nothing}
-use Rattle.term.specs.Cells.{term, Sound}
+use Rattle.term.specs.Cells.{term}
 use Rattle.term.specs.Area.{Makes}
 use Rattle.term.specs.Counts.{Countable}
-use Rattle.term.specs.CellLaws.{sound-less, grown-term, makes-old, makes-more, makes-as, makes-after}
+use Rattle.term.specs.CellLaws.{Same, frame, sound-same, sound-less, makes-old, makes-more, makes-as}
 use Rattle.normal.specs.declared.Built.{Built}
+use Rattle.normal.specs.declared.Join.the-variants.{Or}
+use Rattle.normal.specs.Nest.{Listing, Lists, Nests}
+use Rattle.normal.specs.NestLaws.{listing-first, listing-next, listing-asks, listing-made}
 use Rattle.normal.specs.AnswerLaws.{made-counts}
 use Rattle.choice.specs.declared.Merge.{Merge}
 use Rattle.choice.specs.declared.Merge.the-variants.{Whole, Pair, More}
 use Rattle.choice.specs.Asked.{members, altCells, Choices, ShortChoices, Meets, Unites}
-use Rattle.choice.specs.Builds.{Alts}
+use Rattle.choice.specs.Builds.{United, Alts}
 use Rattle.choice.specs.Merge.{Stands, Pairs, Leads, Goes}
 use Rattle.choice.specs.NodeLaws.{members-some, members-alt}
 
@@ -50,27 +54,6 @@ module _ {s : List ℕ} {top a b : ℕ} (l : Unites s top a b) where
         right-some = l .right-some;
       }
 
-  pub whole-made : {root : ℕ} → Stands s a b root
-      → Makes s top s root top (united (term s a) (term s b)) (members (united (term s a) (term s b)) - 1)
-  whole-made {root} t = makes-old root _ _ (l .choices .sound) (t .low top (l .choices .left) (l .choices .right)) (t .is)
-
-  module _ {h r : ℕ} (t : Pairs s a b h r) where
-    pub pair-asks : Sound s top × ((top < length s) × ((h < top) × (r < top)))
-    pair-asks = (
-      l .choices .sound,
-      (
-        omega (arith, l .choices .room, members-some (term s a), members-some (term s b)),
-        t .low top (l .choices .left) (l .choices .right),
-      ),
-    )
-
-    pub pair-made : {s′ : List ℕ} {root top′ : ℕ} → Makes s top s′ root top′ (Re.Alt (term s h) (term s r)) 1
-        → Makes s top s′ root top′ (united (term s a) (term s b)) (members (united (term s a) (term s b)) - 1)
-    pair-made m =
-        let v = united (term s a) (term s b) in
-        let n : members v ≡ 1 + members (term s r) = ap members (t .is) ∙ members-alt (term s h) (term s r) (t .one) in
-        makes-as v (makes-more (members v - 1) m (omega (arith, members-some (term s r)))) (sym (t .is))
-
   module _ {h x y : ℕ} (t : Leads s a b h x y) where
     pub more-asks : Unites s top x y
     more-asks =
@@ -90,31 +73,114 @@ module _ {s : List ℕ} {top a b : ℕ} (l : Unites s top a b) where
           right-some = t .right-some;
         }
 
-    -- the member is stored above the merge of what is left
-    module _ {s′ : List ℕ} {root top′ : ℕ}
-        (m : Makes s top s′ root top′ (united (term s x) (term s y)) (members (united (term s x) (term s y)) - 1)) where
-      pub first-asks : Sound s′ top′ × ((top′ < length s′) × ((h < top′) × (root < top′)))
-      first-asks =
-          let w = united (term s x) (term s y) in
-          let few = united-members (term s x) (term s y) (t .left-shape) (t .right-shape) (t .left-some) (t .right-some) in
-          let low = t .low top (l .choices .left) (l .choices .right) .0 in (
-            m .grown .sound,
-            (
-              omega (arith, l .choices .room, t .fewer, members-some w, m .few, m .grown .same-length),
-              (omega (arith, m .grown .up), m .within),
-            ),
-          )
+  -- cells above top do not matter
+  unites-same : (s′ : List ℕ) → Same s s′ top → length s′ ≡ length s → Unites s′ top a b
+  unites-same s′ same long =
+      let c = l .choices in
+      let p : term s′ a ≡ term s a = frame s s′ top a (c .sound) same (c .left) in
+      let q : term s′ b ≡ term s b = frame s s′ top b (c .sound) same (c .right) in
+      record {
+        choices = record {
+          sound = sound-same s′ (c .sound) same long;
+          left = c .left;
+          right = c .right;
+          left-shape = rw p (c .left-shape);
+          right-shape = rw q (c .right-shape);
+          room = omega (arith, c .room, ap members p, ap members q);
+        };
+        left-some = rw p (l .left-some);
+        right-some = rw q (l .right-some);
+      }
 
-      pub more-made : {s″ : List ℕ} {root′ top″ : ℕ} → Makes s′ top′ s″ root′ top″ (Re.Alt (term s′ h) (term s′ root)) 1
-          → Makes s top s″ root′ top″ (united (term s a) (term s b)) (members (united (term s a) (term s b)) - 1)
-      more-made k =
-          let v = united (term s a) (term s b) in
-          let w = united (term s x) (term s y) in
-          let low = t .low top (l .choices .left) (l .choices .right) .0 in
-          let same : term s′ h ≡ term s h = grown-term h (m .grown) (l .choices .sound) low in
-          let is : Re.Alt (term s′ h) (term s′ root) ≡ v = cc (m .is, t .is) in
-          let n : members v ≡ 1 + members w = ap members (t .is) ∙ members-alt (term s h) w (t .one) in
-          makes-as v (makes-more (members v - 1) (makes-after (members w - 1) (m .grown) (m .few) k) (omega (arith, members-some w))) is
+-- on the way: the members before the merge of left and right are listed from top to end
+pub record Uniting (s : List ℕ) (top a b : ℕ) (l : List ℕ) (left right end : ℕ) : Type 0 where
+  pub rest : Unites l top left right
+  pub listing : Listing Or s top l end (united (term s a) (term s b)) (united (term l left) (term l right))
+  pub count : end + members (united (term l left) (term l right)) ≡ top + members (united (term s a) (term s b))
+
+module _ {s : List ℕ} {top a b : ℕ} (asked : Unites s top a b) where
+  pub uniting-first : Uniting s top a b s a b top
+  uniting-first = record { rest = asked; listing = listing-first Or s top (united (term s a) (term s b)); count = refl }
+
+  module _ {l : List ℕ} {left right end : ℕ} (t : Uniting s top a b l left right end) where
+    -- a number below top is of the term that it was of
+    old : (i : ℕ) → i < top → term l i ≡ term s i
+    old i h = frame s l top i (asked .choices .sound) (t .listing .wasted .kept-below) h
+
+    -- the members that are left have room
+    room : end + members (united (term l left) (term l right)) ≤ length s
+    room =
+        let c = asked .choices in
+        omega (
+          arith,
+          t .count,
+          c .room,
+          united-members (term s a) (term s b) (c .left-shape) (c .right-shape) (asked .left-some) (asked .right-some),
+        )
+
+    -- nothing more is listed
+    module _ {root : ℕ} (g : Stands l left right root) where
+      held : root < top
+      held = g .low top (t .rest .choices .left) (t .rest .choices .right)
+
+      stands : united (term l left) (term l right) ≡ term s root
+      stands = sym (g .is) ∙ old root held
+
+      pub whole-asks : Lists l top end root
+      whole-asks = listing-asks (t .listing) (asked .choices .sound) held (omega (arith, room))
+
+      pub whole-made : {s′ : List ℕ} {r : Built} → Nests Or l top end root s′ r → United s top a b s′ r
+      whole-made n =
+          makes-more _ (listing-made (t .listing) (asked .choices .sound) held stands n)
+          (omega (arith, t .count, members-some (united (term l left) (term l right))))
+
+    -- one member more
+    module _ {h r : ℕ} (g : Pairs l left right h r) where
+      low : (h < top) × (r < top)
+      low = g .low top (t .rest .choices .left) (t .rest .choices .right)
+
+      two : members (united (term l left) (term l right)) ≡ 1 + members (term l r)
+      two = ap members (g .is) ∙ members-alt (term l h) (term l r) (g .one)
+
+      pub pair-inside : end < length l
+      pair-inside = omega (arith, room, two, t .listing .wasted .same-length)
+
+      all : Listing Or s top (set l end h) (end + 1) (united (term s a) (term s b)) (term s r)
+      all = listing-next (t .listing) h (term s r) (low .0) (omega (arith, room, two)) (cc (g .is, old h (low .0), old r (low .1)))
+
+      pub pair-asks : Lists (set l end h) top (end + 1) r
+      pair-asks = listing-asks all (asked .choices .sound) (low .1) (omega (arith, room, two))
+
+      pub pair-made : {s′ : List ℕ} {made : Built} → Nests Or (set l end h) top (end + 1) r s′ made → United s top a b s′ made
+      pair-made n =
+          makes-more _ (listing-made all (asked .choices .sound) (low .1) refl n) (omega (arith, t .count, two, members-some (term l r)))
+
+    -- a member, and the merge goes on
+    module _ {h x y : ℕ} (g : Leads l left right h x y) where
+      next : Unites l top x y
+      next = more-asks (t .rest) g
+
+      one-more : members (united (term l left) (term l right)) ≡ 1 + members (united (term l x) (term l y))
+      one-more = ap members (g .is) ∙ members-alt (term l h) (united (term l x) (term l y)) (g .one)
+
+      pub more-inside : end < length l
+      more-inside = omega (arith, room, one-more, t .listing .wasted .same-length)
+
+      pub uniting-next : Uniting s top a b (set l end h) x y (end + 1)
+      uniting-next =
+          let l′ = set l end h in
+          let up = t .listing .up in
+          let held = g .low top (t .rest .choices .left) (t .rest .choices .right) .0 in
+          let same : Same l l′ top = λ j k. getD-set-other l end j h 0 (λ z. omega arith) in
+          let p : term l′ x ≡ term l x = frame l l′ top x (next .choices .sound) same (next .choices .left) in
+          let q : term l′ y ≡ term l y = frame l l′ top y (next .choices .sound) same (next .choices .right) in
+          let e : united (term l′ x) (term l′ y) ≡ united (term l x) (term l y) = cc (p, q) in
+          record {
+            rest = unites-same next l′ same (length-set l end h);
+            listing = listing-next (t .listing) h (united (term l′ x) (term l′ y)) held (omega (arith, room, one-more))
+                (cc (g .is, old h held, e));
+            count = omega (arith, t .count, one-more, ap members e);
+          }
 
 -- ---- alt
 

@@ -5,8 +5,9 @@ ghost use Rattle.choice.specs.Asked.{Choices, ShortChoices, Meets, Unite
 ghost use Rattle.choice.specs.Merge.{headAt, Goes};
 ghost use Rattle.choice.specs.Builds.{United, Alts, AltFits};
 use normal::Built;
+use normal::Join;
 use normal::Made;
-use normal::store;
+use normal::nest;
 use term::ALT;
 use term::Order;
 use term::Term;
@@ -70,18 +71,30 @@ fn next_member(cells: &[u64], a: usize, b: usize) -> Merge
     }
 }
 
-// Merges two choices, neither of which is Nothing.
+// Merges two choices, neither of which is Nothing: the members of the merge are listed from `top` on, and nested over what stands in a cell.
 fn unite(cells: &mut [u64], top: usize, a: usize, b: usize) -> Built
     requires { ⌜ Unites (now cells) top a b ⌝ }
     ensures { λ r. ⌜ United (now (cells .entry)) top a b (now (cells .exit)) r ⌝ }
 {
-    let step = next_member(cells, a, b);
-    match step {
-        Merge::Whole(root) => Built { root, top },
-        Merge::Pair(first, rest) => store(cells, top, Term::Alt(first, rest)),
-        Merge::More(first, left, right) => {
-            let rest = unite(cells, top, left, right);
-            store(cells, rest.top, Term::Alt(first, rest.root))
+    let mut left = a;
+    let mut right = b;
+    let mut end = top;
+    loop {
+        let step = next_member(cells, left, right);
+        match step {
+            Merge::Whole(root) => {
+                return nest(cells, top, end, root, Join::Or);
+            }
+            Merge::Pair(first, rest) => {
+                cells[end] = first as u64;
+                return nest(cells, top, end + 1, rest, Join::Or);
+            }
+            Merge::More(first, x, y) => {
+                cells[end] = first as u64;
+                end += 1;
+                left = x;
+                right = y;
+            }
         }
     }
 }

@@ -1,11 +1,11 @@
--- Laws for chain, cat and star, one for each of their returns and calls: what the node told, and what a callee made, is what is asked.
+-- Laws for chain, cat and star, one for each of their returns, calls and turns: what the node told, and what a callee made, is what is asked.
 -- cat makes nothing new unless both sides are more than Empty.
 use Prim.Native.Nat.{ℕ, suc, _+_, _<_, _≤_}
 use native.Mathlib.Omega.{arith}
-use mathlib.Core.Path.{_≡_, refl, sym}
+use mathlib.Core.Path.{_≡_, refl, sym, ap, _∙_}
 use mathlib.Core.Bool.{Bool, true, false, cond, _||_}
 use mathlib.Core.List.{List}
-use lib.ListN.{length}
+use lib.ListN.{length, getD, set}
 use Rattle.meaning.specs.Re.{Re, isNothing, isEmpty}
 use Rattle.meaning.specs.Normal.{chain, cat, star}
 use Rattle.meaning.specs.ShapeLaws.{chain-one, cat-chain}
@@ -13,15 +13,19 @@ use Rattle.meaning.specs.SizeLaws.{spine}
 use Rattle.meaning.specs.Tests.{is-nothing}
 use Rattle.term.specs.declared.Term.{Term}
 use Rattle.term.specs.declared.Term.the-variants.{Nothing, Empty, Range, Cat, Alt, Star}
-use Rattle.term.specs.Cells.{grow, term, Sound}
+use Rattle.term.specs.Cells.{nodeOf, term, Sound}
 use Rattle.term.specs.Area.{Makes}
-use Rattle.term.specs.Nodes.{kindOf, Found}
+use Rattle.term.specs.Nodes.{kindOf, firstOf, secondOf, Found}
 use Rattle.term.specs.Counts.{Countable}
-use Rattle.term.specs.CellLaws.{grown-term, makes-old, makes-more, makes-as, makes-after}
+use Rattle.term.specs.CellLaws.{found, makes-old, makes-more, makes-as}
+use Rattle.term.specs.ReadLaws.{found-cat}
 use Rattle.normal.specs.Asked.{plain, catCells, Links, CountedLinks}
 use Rattle.normal.specs.NodeLaws.{found-no-cat}
+use Rattle.normal.specs.NestLaws.{listing-first, listing-next, listing-asks, listing-made}
 use Rattle.normal.specs.declared.Built.{Built}
-use Rattle.normal.specs.Builds.{Cats}
+use Rattle.normal.specs.declared.Join.the-variants.{Then}
+use Rattle.normal.specs.Nest.{Listing, Lists, Nests}
+use Rattle.normal.specs.Builds.{Chains, Cats}
 use Rattle.normal.specs.AnswerLaws.{made-counts}
 
 -- ---- chain
@@ -34,42 +38,58 @@ chain-cat : (s : List ℕ) (a x y : ℕ) (z : Re) → Found s a (Cat x y) → ch
 unfolding chain
 chain-cat s a x y z f = rw (f .is)
 
-module _ {s : List ℕ} {top a b : ℕ} (l : Links s top a b) {x y : ℕ} (f : Found s a (Cat x y)) where
-  -- one link further
-  pub chain-down : Links s top y b
-  chain-down =
-      let g = spine-cat s a x y f in
-      let h = f .below .1 in
-      record { sound = l .sound; left = omega (arith, l .left); right = l .right; room = omega (arith, l .room) }
+-- on the way: the members before cell last are listed from top to end
+pub record Chaining (s : List ℕ) (top a b : ℕ) (l : List ℕ) (last end : ℕ) : Type 0 where
+  pub held : last < top
+  pub listing : Listing Then s top l end (chain (term s a) (term s b)) (chain (term s last) (term s b))
+  pub count : end + spine (term s last) ≡ top + spine (term s a)
 
-  module _ {s′ : List ℕ} {root top′ : ℕ} (m : Makes s top s′ root top′ (chain (term s y) (term s b)) (spine (term s y) + 1)) where
-    -- the link is stored above the rest
-    pub chain-asks : Sound s′ top′ × ((top′ < length s′) × ((x < top′) × (root < top′)))
-    chain-asks =
-        let g = spine-cat s a x y f in
-        let h = f .below .0 in (
-          m .grown .sound,
-          (
-            omega (arith, l .room, m .few, m .grown .same-length),
-            (omega (arith, l .left, m .grown .up), m .within),
-          ),
-        )
+module _ {s : List ℕ} {top a b : ℕ} (asked : Links s top a b) where
+  pub chaining-first : Chaining s top a b s a top
+  chaining-first = record { held = asked .left; listing = listing-first Then s top (chain (term s a) (term s b)); count = refl }
 
-    pub chain-up : {s″ : List ℕ} {root′ top″ : ℕ} → Makes s′ top′ s″ root′ top″ (grow (Cat x root) (term s′)) 1
-        → Makes s top s″ root′ top″ (chain (term s a) (term s b)) (spine (term s a) + 1)
-    chain-up n =
-        let h = f .below .0 in
-        let same : term s′ x ≡ term s x = grown-term x (m .grown) (l .sound) (omega (arith, l .left)) in
-        let is : Re.Cat (term s′ x) (term s′ root) ≡ chain (term s a) (term s b) = cc (chain-cat s a x y (term s b) f, m .is) in
-        makes-as (chain (term s a) (term s b))
-        (makes-more (spine (term s a) + 1) (makes-after (spine (term s y) + 1) (m .grown) (m .few) n) (omega (arith, spine-cat s a x y f)))
-        is
+  module _ {l : List ℕ} {last end : ℕ} (t : Chaining s top a b l last end) where
+    pub last-inside : last < length l
+    last-inside = omega (arith, t .held, asked .sound .room, t .listing .wasted .same-length)
 
-pub chain-end : {s : List ℕ} {a : ℕ} (b : ℕ) {u : Term} {s′ : List ℕ} {top root top′ : ℕ} → Found s a u → (kindOf u ≡ 3 → ⊥)
-    → Makes s top s′ root top′ (Re.Cat (term s a) (term s b)) 1 → Makes s top s′ root top′ (chain (term s a) (term s b)) (spine (term s a) + 1)
-chain-end {s} {a} b f n m =
-    makes-as (chain (term s a) (term s b)) (makes-more (spine (term s a) + 1) m (omega arith))
-    (sym (chain-one (term s a) (term s b) (found-no-cat f n)))
+    room : end < length s
+    room = omega (arith, asked .room, t .count)
+
+    pub end-inside : end < length l
+    end-inside = omega (arith, room, t .listing .wasted .same-length)
+
+    module _ {u : Term} (e : u ≡ nodeOf (getD l last 0)) where
+      here : Found s last u
+      here = found s top last u (asked .sound) (t .held) (e ∙ ap nodeOf (t .listing .wasted .kept-below last (t .held)))
+
+      -- a link more
+      module _ {x y : ℕ} (k : kindOf u ≡ 3) (p : x ≡ firstOf u) (q : y ≡ secondOf u) where
+        link : Found s last (Cat x y)
+        link = found-cat here k p q
+
+        pub chain-falls : y < last
+        chain-falls = link .below .1
+
+        pub chaining-next : Chaining s top a b (set l end x) y (end + 1)
+        chaining-next =
+            let low = link .below .0 in
+            record {
+              held = omega (arith, chain-falls, t .held);
+              listing =
+                  listing-next (t .listing) x (chain (term s y) (term s b)) (omega (arith, t .held)) room (chain-cat s last x y (term s b) link);
+              count = omega (arith, t .count, spine-cat s last x y link);
+            }
+
+      -- the last member
+      module _ (n : kindOf u ≡ 3 → ⊥) where
+        all : Listing Then s top (set l end last) (end + 1) (chain (term s a) (term s b)) (term s b)
+        all = listing-next (t .listing) last (term s b) (t .held) room (chain-one (term s last) (term s b) (found-no-cat here n))
+
+        pub chain-asks : Lists (set l end last) top (end + 1) b
+        chain-asks = listing-asks all (asked .sound) (asked .right) (omega (arith, room))
+
+        pub chain-made : {s′ : List ℕ} {r : Built} → Nests Then (set l end last) top (end + 1) b s′ r → Chains s top a b s′ r
+        chain-made m = makes-more (spine (term s a) + 1) (listing-made all (asked .sound) (asked .right) refl m) (omega (arith, t .count))
 
 -- ---- cat
 

@@ -1,11 +1,13 @@
 // Terms built in the work area, always in normal form: leaves, cat and star on terms in normal form. The choice of two terms is the crate choice's.
 // A result with the limit is counted, and one of more than 255 nodes is Long.
-ghost use Prim.Native.Nat.{_<_};
+ghost use mathlib.Core.Path.{_≡_};
+ghost use Prim.Native.Nat.{_<_, _≤_};
 ghost use lib.ListN.{length};
 ghost use Rattle.term.specs.Cells.{Below, Sound};
 ghost use Rattle.term.specs.Counts.{Countable};
 ghost use Rattle.normal.specs.Asked.{Links, CountedLinks};
 ghost use Rattle.normal.specs.Builds.{Stores, Chains, Cats, Stars, Fitted, CatFits};
+ghost use Rattle.normal.specs.Nest.{joinNode, Turned, Lists, Nests};
 use term::CAT;
 use term::Term;
 
@@ -35,20 +37,73 @@ pub fn store(cells: &mut [u64], top: usize, node: Term) -> Built
     }
 }
 
-// Puts `b` behind the last link of the chain `a`.
+// How members are joined: one after another, or as a choice.
+pub enum Join {
+    Then,
+    Or,
+}
+
+fn joined(join: Join, first: usize, rest: usize) -> Term
+    ensures { λ r. ⌜ r ≡ joinNode join first rest ⌝ }
+{
+    match join {
+        Join::Then => Term::Cat(first, rest),
+        Join::Or => Term::Alt(first, rest),
+    }
+}
+
+// Turns the numbers in the cells from `top` to `end` around.
+fn turn_around(cells: &mut [u64], top: usize, end: usize)
+    requires { ⌜ top ≤ end ⌝ }
+    requires { ⌜ end ≤ length (now cells) ⌝ }
+    ensures { λ _. ⌜ Turned (now (cells .entry)) top end (now (cells .exit)) ⌝ }
+{
+    let mut low = top;
+    let mut high = end;
+    while low + 1 < high {
+        high -= 1;
+        let number = cells[low];
+        cells[low] = cells[high];
+        cells[high] = number;
+        low += 1;
+    }
+}
+
+// Joins the members whose numbers are listed in the cells from `top` to `end`, each to all after it, and the last to `tail`.
+// A node stands above its parts, so that of the last member is stored first: the list is turned around, and the nodes take its cells.
+pub fn nest(cells: &mut [u64], top: usize, end: usize, tail: usize, join: Join) -> Built
+    requires { ⌜ Lists (now cells) top end tail ⌝ }
+    ensures { λ r. ⌜ Nests join (now (cells .entry)) top end tail (now (cells .exit)) r ⌝ }
+{
+    turn_around(cells, top, end);
+    let mut at = top;
+    let mut root = tail;
+    while at < end {
+        let first = cells[at] as usize;
+        let next = term::push(cells, at, joined(join, first, root));
+        root = at;
+        at = next;
+    }
+    Built { root, top: end }
+}
+
+// Puts `b` behind the last link of the chain `a`: the chain's members are listed from `top` on, and nested anew over `b`.
 fn chain(cells: &mut [u64], top: usize, a: usize, b: usize) -> Built
     requires { ⌜ Links (now cells) top a b ⌝ }
     ensures { λ r. ⌜ Chains (now (cells .entry)) top a b (now (cells .exit)) r ⌝ }
 {
-    let node = term::node_at(cells, a);
-    let kind = term::kind_of(node);
-    if kind == CAT {
-        let first = term::first_of(node);
-        let second = term::second_of(node);
-        let rest = chain(cells, top, second, b);
-        return store(cells, rest.top, Term::Cat(first, rest.root));
+    let mut last = a;
+    let mut end = top;
+    loop {
+        let node = term::node_at(cells, last);
+        if term::kind_of(node) != CAT {
+            cells[end] = last as u64;
+            return nest(cells, top, end + 1, b, Join::Then);
+        }
+        cells[end] = term::first_of(node) as u64;
+        end += 1;
+        last = term::second_of(node);
     }
-    store(cells, top, Term::Cat(a, b))
 }
 
 // One term after another: Nothing on a side gives Nothing, Empty on a side the other side, all else a chain.
