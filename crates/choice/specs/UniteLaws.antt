@@ -86,6 +86,8 @@ module _ {s : List ℕ} {top a b : ℕ} (l : Unites s top a b) where
           right = c .right;
           left-shape = rw p (c .left-shape);
           right-shape = rw q (c .right-shape);
+          left-short = rw p (c .left-short);
+          right-short = rw q (c .right-short);
           room = omega (arith, c .room, ap members p, ap members q);
         };
         left-some = rw p (l .left-some);
