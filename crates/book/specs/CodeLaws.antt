@@ -178,11 +178,6 @@ module _ (file : List ℕ) where
       let r = nodes-read v k terms at ns after e in
       ap length (r .all) ∙ ap suc (nodes-many v k _ _ (r .rest) after (r .rest-read))
 
-  pub counted-many : (v left terms at count after : ℕ) → counted v left terms at ≡ got count after → count ≡ left
-  counted-many v left terms at count after e =
-      let made = made-of length (readNodes file v left terms at) e in
-      sym (made .makes) ∙ nodes-many v left terms at (made .from) after (made .read)
-
   -- ---- the rules of a book, their nodes summed up
 
   abbrev pub summed : ℕ → ℕ → ℕ → ℕ → Answer ℕ
@@ -246,20 +241,14 @@ module _ (file : List ℕ) where
       let many : length (nodes-made .from) ≡ m = nodes-many v m 0 first (nodes-made .from) next (nodes-made .read) in
       rw (z, step, nodes-made .read, rules-made .read, many, rules-made .makes)
 
-  -- what reading a rule and the rest met
-  pub record RuleRead (v k used at : ℕ) (rs : List Rule) (after : ℕ) : Type 0 where
-    pub rule : Rule
-    pub rest : List Rule
-    pub count : ℕ
-    pub m : ℕ
-    pub first : ℕ
-    pub next : ℕ
-    pub head : HeadRead at (rule .kind) count m first
-    pub few : used + m ≤ nodes
-    pub nodes-read : readNodes file v m 0 first ≡ got (rule .nodes) next
-    pub many : length (rule .nodes) ≡ m
-    pub rest-read : readRules file v k (used + m) next ≡ got rest after
-    pub all : rs ≡ rule ∷ rest
+  -- what reading a rule and the rest met: the rest, and where it was read
+  record RuleRead (v k : ℕ) (rs : List Rule) (after : ℕ) : Type 0 where
+    rule : Rule
+    rest : List Rule
+    used : ℕ
+    next : ℕ
+    rest-read : readRules file v k used next ≡ got rest after
+    all : rs ≡ rule ∷ rest
 
   record HeadIn (used at : ℕ) : Type 0 where
     kind : ℕ
@@ -284,52 +273,28 @@ module _ (file : List ℕ) where
         few = ltb-false nodes (used + m .from) (few .0);
       }
 
-  nodes-in : (v k used at : ℕ) (rs : List Rule) (after : ℕ) → HeadIn used at → readRules file v (suc k) used at ≡ got rs after
-      → RuleRead v k used at rs after
-  nodes-in v k used at rs after h e =
+  rule-read : (v k used at : ℕ) (rs : List Rule) (after : ℕ) → readRules file v (suc k) used at ≡ got rs after → RuleRead v k rs after
+  rule-read v k used at rs after e =
+      let h = head-in v k used at rs after e in
       let step = rules-step v k used at (h .kind) (h .count) (h .m) (h .first) (h .head) (h .few) in
       let ns = went (readNodes file v (h .m) 0 (h .first)) _ (sym step ∙ e) in
       let rest = went (readRules file v k (used + h .m) (ns .mid)) _ (ns .onto) in
       record {
         rule = record { kind = h .kind; nodes = ns .from };
         rest = rest .from;
-        count = h .count;
-        m = h .m;
-        first = h .first;
+        used = used + h .m;
         next = ns .mid;
-        head = h .head;
-        few = h .few;
-        nodes-read = ns .read;
-        many = nodes-many v (h .m) 0 (h .first) (ns .from) (ns .mid) (ns .read);
         rest-read = got-is (rest .read) refl (same-place (rest .onto));
         all = sym (same-thing (rest .onto));
       }
 
-  pub rule-read : (v k used at : ℕ) (rs : List Rule) (after : ℕ) → readRules file v (suc k) used at ≡ got rs after
-      → RuleRead v k used at rs after
-  rule-read v k used at rs after e = nodes-in v k used at rs after (head-in v k used at rs after e) e
-
-  -- as many rules are read as are asked for, and their nodes stay within the limit
+  -- as many rules are read as are asked for
   pub rules-many : (v left used at : ℕ) (rs : List Rule) (after : ℕ) → readRules file v left used at ≡ got rs after → length rs ≡ left
   unfolding readRules
   rules-many v zero used at rs after e = ap length (sym (same-thing e))
   rules-many v (suc k) used at rs after e =
       let r = rule-read v k used at rs after e in
       ap length (r .all) ∙ ap suc (rules-many v k _ _ (r .rest) after (r .rest-read))
-
-  pub rules-most : (v left used at : ℕ) (rs : List Rule) (after : ℕ) → used ≤ nodes → readRules file v left used at ≡ got rs after
-      → used + total rs ≤ nodes
-  unfolding readRules total
-  rules-most v zero used at rs after few e = rw (sym (same-thing e)) (omega arith)
-  rules-most v (suc k) used at rs after few e =
-      let r = rule-read v k used at rs after e in
-      let ih = rules-most v k (used + r .m) (r .next) (r .rest) after (r .few) (r .rest-read) in
-      rw (r .all) (omega arith)
-
-  pub summed-most : (v left used at sum after : ℕ) → used ≤ nodes → summed v left used at ≡ got sum after → used + sum ≤ nodes
-  summed-most v left used at sum after few e =
-      let made = made-of total (readRules file v left used at) e in
-      omega (arith, made .makes, rules-most v left used at (made .from) after few (made .read))
 
   -- ---- a whole book
 

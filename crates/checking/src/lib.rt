@@ -57,58 +57,61 @@ fn node_refusal(n: NodeRead) -> Refusal
 
 // So many nodes more, where so many terms stand: how many nodes those were, and the place after them.
 // The terms grow by one a node at most, so the limit on nodes keeps their count small.
+// Where none is refused, all that were asked for are read, so nothing is counted.
 pub fn check_nodes(book: &[u8], at: usize, version: usize, left: usize, terms: usize) -> Taken
     requires { ⌜ terms + left ≤ nodes ⌝ }
     ensures { λ r. ⌜ taken r ≡ mapAnswer length (readNodes (now (book .entry)) version left terms at) ⌝ }
 {
-    if left == 0 {
-        if terms == 1 {
-            return Taken::Value(0, at);
+    let mut place = at;
+    let mut more = left;
+    let mut standing = terms;
+    while 0 < more {
+        let node = read_node(book, place, version);
+        let NodeRead::At(n, next) = node else {
+            return Taken::Refused(node_refusal(node));
+        };
+        let needs = takes(n);
+        if standing < needs {
+            return Taken::Refused(Refusal::Stack(place));
         }
-        return Taken::Refused(Refusal::Stack(at));
+        standing = standing + 1 - needs;
+        more -= 1;
+        place = next;
     }
-    let node = read_node(book, at, version);
-    let NodeRead::At(n, next) = node else {
-        return Taken::Refused(node_refusal(node));
-    };
-    let needs = takes(n);
-    if terms < needs {
-        return Taken::Refused(Refusal::Stack(at));
+    if standing == 1 {
+        return Taken::Value(left, place);
     }
-    let rest = check_nodes(book, next, version, left - 1, terms + 1 - needs);
-    let Taken::Value(more, after) = rest else {
-        return rest;
-    };
-    Taken::Value(more + 1, after)
+    Taken::Refused(Refusal::Stack(place))
 }
 
 // So many rules more, where so many nodes have been read: how many nodes they have, and the place after them.
-// The sum is tested as each count is read, before the nodes are, and refused at that count.
+// The sum goes on from those. It is tested as each count is read, before the nodes are, and refused at that count.
 fn check_rules(book: &[u8], at: usize, version: usize, left: usize, used: usize) -> Taken
     requires { ⌜ used ≤ nodes ⌝ }
     ensures { λ r. ⌜ taken r ≡ mapAnswer total (readRules (now (book .entry)) version left used at) ⌝ }
 {
-    if left == 0 {
-        return Taken::Value(0, at);
+    let mut place = at;
+    let mut more = left;
+    let mut sum = used;
+    while 0 < more {
+        let kind = read_field(book, place, 0, KINDS);
+        let Taken::Value(_, at_count) = kind else {
+            return kind;
+        };
+        let count = read_field(book, at_count, 1, NODES);
+        let Taken::Value(m, first) = count else {
+            return count;
+        };
+        if NODES < sum + m {
+            return Taken::Refused(Refusal::Range(at_count));
+        }
+        let nodes = check_nodes(book, first, version, m, 0);
+        let Taken::Value(_, next) = nodes else {
+            return nodes;
+        };
+        sum += m;
+        more -= 1;
+        place = next;
     }
-    let kind = read_field(book, at, 0, KINDS);
-    let Taken::Value(_, at_count) = kind else {
-        return kind;
-    };
-    let count = read_field(book, at_count, 1, NODES);
-    let Taken::Value(m, first) = count else {
-        return count;
-    };
-    if NODES < used + m {
-        return Taken::Refused(Refusal::Range(at_count));
-    }
-    let nodes = check_nodes(book, first, version, m, 0);
-    let Taken::Value(_, next) = nodes else {
-        return nodes;
-    };
-    let rest = check_rules(book, next, version, left - 1, used + m);
-    let Taken::Value(more, after) = rest else {
-        return rest;
-    };
-    Taken::Value(m + more, after)
+    Taken::Value(sum - used, place)
 }

@@ -89,18 +89,21 @@ fn read_head(book: &[u8], at: usize) -> PlaceRead
 fn find_rule(book: &[u8], at: usize, version: usize, left: usize) -> PlaceRead
     ensures { λ r. ⌜ placeRead r ≡ findRule (now (book .entry)) version left at ⌝ }
 {
-    let head = read_head(book, at);
-    let PlaceRead::Place(p) = head else {
-        return head;
-    };
-    if left == 0 {
-        return head;
+    let mut place = at;
+    let mut more = left;
+    while 0 < more {
+        let head = read_head(book, place);
+        let PlaceRead::Place(p) = head else {
+            return head;
+        };
+        let nodes = check_nodes(book, p.at, version, p.nodes, 0);
+        let Taken::Value(_, next) = nodes else {
+            return PlaceRead::Refused(refusal_of(nodes));
+        };
+        more -= 1;
+        place = next;
     }
-    let nodes = check_nodes(book, p.at, version, p.nodes, 0);
-    let Taken::Value(_, next) = nodes else {
-        return PlaceRead::Refused(refusal_of(nodes));
-    };
-    find_rule(book, next, version, left - 1)
+    read_head(book, place)
 }
 
 // A rule of a whole book, by its number.

@@ -28,29 +28,36 @@ fn read_runs(
     ensures { λ r. ⌜ LaysRow (readRuns (now (sheet .entry)) s k sum last at) s
         (now (targets .entry)) (base + sum) (now (targets .exit)) r ⌝ }
 {
-    if k == 0 {
-        if sum < BYTES {
-            return Taken::Refused(Refusal::Runs(at));
+    let mut place = at;
+    let mut left = k;
+    let mut covered = sum;
+    let mut before = last;
+    while 0 < left {
+        let length = number::read_field(sheet, place, 1, BYTES);
+        let Taken::Value(len, at_target) = length else {
+            return length;
+        };
+        let end = covered + len;
+        if BYTES < end {
+            return Taken::Refused(Refusal::Runs(place));
         }
-        return Taken::Value(s, at);
+        let leads = number::read_field(sheet, at_target, 0, s - 1);
+        let Taken::Value(target, next) = leads else {
+            return leads;
+        };
+        if target == before {
+            return Taken::Refused(Refusal::Runs(at_target));
+        }
+        fill(targets, base + covered, base + end, target as u8);
+        left -= 1;
+        covered = end;
+        before = target;
+        place = next;
     }
-    let length = number::read_field(sheet, at, 1, BYTES);
-    let Taken::Value(len, at_target) = length else {
-        return length;
-    };
-    let covered = sum + len;
-    if BYTES < covered {
-        return Taken::Refused(Refusal::Runs(at));
+    if covered < BYTES {
+        return Taken::Refused(Refusal::Runs(place));
     }
-    let leads = number::read_field(sheet, at_target, 0, s - 1);
-    let Taken::Value(target, next) = leads else {
-        return leads;
-    };
-    if target == last {
-        return Taken::Refused(Refusal::Runs(at_target));
-    }
-    fill(targets, base + sum, base + covered, target as u8);
-    read_runs(sheet, next, s, k - 1, covered, target, base, targets)
+    Taken::Value(s, place)
 }
 
 // k states more of a sheet of s states: the first of them is state s - k.
@@ -67,24 +74,27 @@ fn read_states(
     ensures { λ r. ⌜ LaysRows (readStates (now (sheet .entry)) s k at) s (s - k)
         (now (labels .entry)) (now (targets .entry)) (now (labels .exit)) (now (targets .exit)) r ⌝ }
 {
-    if k == 0 {
-        return Taken::Value(s, at);
+    let mut place = at;
+    let mut left = k;
+    while 0 < left {
+        let named = number::read_field(sheet, place, 0, RULES);
+        let Taken::Value(label, at_count) = named else {
+            return named;
+        };
+        let count = number::read_field(sheet, at_count, 1, BYTES);
+        let Taken::Value(m, at_runs) = count else {
+            return count;
+        };
+        let i = s - left;
+        labels[i] = label as u8;
+        let row = read_runs(sheet, at_runs, s, m, 0, s, i * BYTES, targets);
+        let Taken::Value(_, next) = row else {
+            return row;
+        };
+        left -= 1;
+        place = next;
     }
-    let named = number::read_field(sheet, at, 0, RULES);
-    let Taken::Value(label, at_count) = named else {
-        return named;
-    };
-    let count = number::read_field(sheet, at_count, 1, BYTES);
-    let Taken::Value(m, at_runs) = count else {
-        return count;
-    };
-    let i = s - k;
-    labels[i] = label as u8;
-    let row = read_runs(sheet, at_runs, s, m, 0, s, i * BYTES, targets);
-    let Taken::Value(_, next) = row else {
-        return row;
-    };
-    read_states(sheet, next, s, k - 1, labels, targets)
+    Taken::Value(s, place)
 }
 
 // A whole sheet.
