@@ -14,7 +14,7 @@ use number::Refusal;
 use number::limits::BYTES;
 use number::limits::STATES;
 use number::limits::TABLE_CELLS;
-use pool::INDEX_CELLS;
+use pool::HEADS;
 use steps::Stepped;
 use table::Counted;
 use table::fill;
@@ -32,7 +32,7 @@ fn build_rules(
     requires { ⌜ Roomy (now labels) (now targets) (now cells) ⌝ }
     ensures { λ r. ⌜ Tabled (buildRules (rulesIn (now (book .entry)))) (now (labels .exit)) (now (targets .exit)) r ⌝ }
 {
-    let mut index = [0usize; INDEX_CELLS];
+    let mut index = [0u16; HEADS];
     let first = start::first_vector(book, n, &mut index, cells);
     if first.long {
         return Counted::Refused(Refusal::Long(0));

@@ -16,7 +16,7 @@ use table::Counted;
 
 // The rows of all items, those found on the way too; the answer is as above.
 fn fill_rows(
-    index: &mut [usize],
+    index: &mut [u16],
     cells: &mut [u64],
     top: usize,
     count: usize,
@@ -56,7 +56,7 @@ fn fill_labels(cells: &[u64], n: usize, count: usize, labels: &mut [u8])
 
 // The table of what is held and of all that is found from there.
 pub fn fill_table(
-    index: &mut [usize],
+    index: &mut [u16],
     cells: &mut [u64],
     top: usize,
     count: usize,

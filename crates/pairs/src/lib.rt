@@ -12,7 +12,7 @@ ghost use Rattle.start.specs.Start.{rulesIn, Opened};
 ghost use Rattle.pairs.specs.Promises.{byTargets, HasRow, Closed, Beside, RunTo, Ends};
 use number::Refusal;
 use number::limits::BYTES;
-use pool::INDEX_CELLS;
+use pool::HEADS;
 use steps::Stepped;
 use vector::layout::ITEMS;
 use vector::layout::SHEETS_AT;
@@ -36,7 +36,7 @@ fn run_end(targets: &[u8], from: usize, end: usize) -> usize
 
 // The row of item `i`: one step for each run of bytes that no range tells apart and that lead the table to one state.
 fn walk_row(
-    index: &mut [usize],
+    index: &mut [u16],
     cells: &mut [u64],
     top: usize,
     count: usize,
@@ -75,7 +75,7 @@ fn walk_row(
 
 // The rows of all items, those found on the way too.
 fn walk_rows(
-    index: &mut [usize],
+    index: &mut [u16],
     cells: &mut [u64],
     top: usize,
     count: usize,
@@ -111,7 +111,7 @@ pub fn walk_from<'a>(book: &'a [u8], n: usize, cells: &mut [u64], targets: &'a [
     ensures { λ r. ⌜ Ends n (now (targets .entry)) (now (cells .exit))
         (walkFrom (byTargets (now (targets .entry))) (rulesIn (now (book .entry)))) r ⌝ }
 {
-    let mut index = [0usize; INDEX_CELLS];
+    let mut index = [0u16; HEADS];
     let first = start::first_vector(book, n, &mut index, cells);
     if first.long {
         return Stepped::Stopped(Refusal::Long(0));

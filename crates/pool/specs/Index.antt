@@ -1,13 +1,13 @@
 -- The index of a pool: its cells in chains, one for each hash of a node, so that a node is looked for among few cells.
--- A head for each hash comes first, then a link for each cell of the pool; both name the last cell of the chain before them.
+-- It has a head for each hash, and a link stands in each cell of the pool; both name the last cell of the chain before them.
 use Prim.Native.Nat.{ℕ, _+_, _-_, _*_, _%_, _<_, _≤_}
 use mathlib.Core.Path.{_≡_}
 use mathlib.Core.List.{List}
-use lib.ListN.{length, getD, set}
+use lib.ListN.{length, getD}
 use Rattle.number.specs.Limits.{pool, rules, treeNodes}
 use Rattle.term.specs.declared.Term.{Term}
 use Rattle.meaning.specs.Re.{Re}
-use Rattle.term.specs.Cells.{nodeOf, term}
+use Rattle.term.specs.Cells.{linkOf, nodeOf, term}
 use Rattle.term.specs.Nodes.{kindOf, firstOf, secondOf}
 use Rattle.walk.specs.Parts.{withParts}
 use Rattle.pool.specs.Pooled.{Pool, Pooled}
@@ -16,11 +16,9 @@ use Rattle.pool.specs.Pooled.{Pool, Pooled}
 abbrev pub poolCells : ℕ
 poolCells = pool + rules * treeNodes
 
+-- how many hashes there are, each with a head
 abbrev pub heads : ℕ
 heads = pool
-
-abbrev pub indexCells : ℕ
-indexCells = heads + poolCells
 
 -- the hash of a node, and of the node in a cell
 unfoldable pub hashOf : Term → ℕ
@@ -35,16 +33,12 @@ pub record Last (s : List ℕ) (hash end v : ℕ) : Type 0 where
   pub there : 0 < v → hashAt s (v - 1) ≡ hash
   pub after : (k : ℕ) → v ≤ k → k < end → hashAt s k ≡ hash → ⊥
 
--- x is the index of the cells below top
+-- x is the index of the cells below top, and their links make the chains
 pub record Indexed (x s : List ℕ) (top : ℕ) : Type 0 where
-  pub long : indexCells ≤ length x
+  pub long : heads ≤ length x
   pub few : top ≤ poolCells
   pub head : (h : ℕ) → h < heads → Last s h top (getD x h 0)
-  pub link : (k : ℕ) → k < top → Last s (hashAt s k) k (getD x (heads + k) 0)
-
--- the index once the node in cell `top` stands at the front of its chain
-abbrev pub chained : List ℕ → ℕ → Term → List ℕ
-chained x top u = set (set x (heads + top) (getD x (hashOf u) 0)) (hashOf u) (top + 1)
+  pub link : (k : ℕ) → k < top → Last s (hashAt s k) k (linkOf (getD s k 0))
 
 -- a pool with its index, into which so many nodes more can be put
 pub record Open (x s : List ℕ) (top more : ℕ) : Type 0 where

@@ -6,13 +6,13 @@ use native.Mathlib.Decide.{decLt, ℕ-discrete}
 use mathlib.Core.Path.{_≡_, sym, ap, _∙_}
 use mathlib.Core.List.{List}
 use mathlib.Core.Logic.{_≢_}
-use lib.ListN.{length, getD, set, replicate, length-set, length-replicate, getD-replicate}
+use lib.ListN.{getD, set, replicate, length-set, length-replicate, getD-replicate}
 use lib.Seq.{getD-set-same, getD-set-other}
 use Rattle.meaning.specs.Re.{Re}
 use Rattle.term.specs.declared.Term.{Term}
-use Rattle.term.specs.Cells.{nodeOf}
+use Rattle.term.specs.Cells.{linkOf, nodeOf}
 use Rattle.term.specs.CellLaws.{Same}
-use Rattle.pool.specs.Index.{poolCells, heads, indexCells, hashOf, hashAt, Last, Indexed, chained, Open, After}
+use Rattle.pool.specs.Index.{poolCells, heads, hashOf, hashAt, Last, Indexed, Open, After}
 use Rattle.pool.specs.Steps.{Looked}
 use Rattle.pool.specs.PoolLaws.{pooled}
 
@@ -37,22 +37,26 @@ last-same s s′ top same h l =
 last-as : {s : List ℕ} {hash end v : ℕ} (hash′ : ℕ) → Last s hash end v → hash ≡ hash′ → Last s hash′ end v
 last-as hash′ l e = rw e at l
 
+link-same : {x s : List ℕ} {top : ℕ} (s′ : List ℕ) → Indexed x s top → Same s s′ top → (k : ℕ) → k < top
+    → Last s′ (hashAt s′ k) k (linkOf (getD s′ k 0))
+link-same {x} {s} {top} s′ i same k h = rw (same k h) (last-same s s′ top same (omega arith) (i .link k h))
+
 pub indexed-same : {x s : List ℕ} {top : ℕ} (s′ : List ℕ) → Indexed x s top → Same s s′ top → Indexed x s′ top
 indexed-same {x} {s} {top} s′ i same =
     record {
       long = i .long;
       few = i .few;
       head = λ h k. last-same s s′ top same (omega arith) (i .head h k);
-      link = λ k h. last-as (hashAt s′ k) (last-same s s′ top same (omega arith) (i .link k h)) (sym (same-hash s s′ top same k h));
+      link = link-same s′ i same;
     }
 
 -- an index of no cells
-pub indexed-none : (x s : List ℕ) → x ≡ replicate indexCells 0 → Indexed x s 0
+pub indexed-none : (x s : List ℕ) → x ≡ replicate heads 0 → Indexed x s 0
 indexed-none x s e =
     record {
-      long = rw (e, length-replicate {A = ℕ} indexCells 0) (omega arith);
+      long = rw (e, length-replicate {A = ℕ} heads 0) (omega arith);
       few = omega arith;
-      head = λ h k. rw (e, getD-replicate {A = ℕ} indexCells h 0 0 (omega arith))
+      head = λ h k. rw (e, getD-replicate {A = ℕ} heads h 0 0 (omega arith))
           (record { most = omega arith; there = λ l. absurd (omega arith); after = λ l m n d. omega arith });
       link = λ k h. absurd (omega arith);
     }
@@ -71,7 +75,7 @@ module _ (x s : List ℕ) (top : ℕ) (u : Term) (i : Indexed x s top) where
   chain-first = record { end = top; within = omega arith; next = i .head (hashOf u) (hash-small u); none = λ k h j e. omega arith }
 
   -- the cell that v leads to holds another node
-  pub chain-next : {v : ℕ} → Chain s top u v → 0 < v → (nodeOf (getD s (v - 1) 0) ≡ u → ⊥) → Chain s top u (getD x (heads + (v - 1)) 0)
+  pub chain-next : {v : ℕ} → Chain s top u v → 0 < v → (nodeOf (getD s (v - 1) 0) ≡ u → ⊥) → Chain s top u (linkOf (getD s (v - 1) 0))
   chain-next {v} c h other =
       let m = c .next .most in
       record {
@@ -88,7 +92,7 @@ module _ (x s : List ℕ) (top : ℕ) (u : Term) (i : Indexed x s top) where
       }
 
   -- links lead down
-  pub chain-falls : {v : ℕ} → Chain s top u v → 0 < v → getD x (heads + (v - 1)) 0 < v
+  pub chain-falls : {v : ℕ} → Chain s top u v → 0 < v → linkOf (getD s (v - 1) 0) < v
   chain-falls {v} c h = omega (arith, c .within, c .next .most, i .link (v - 1) (omega (arith, c .within, c .next .most)) .most)
 
 pub chain-inside : {s : List ℕ} {top : ℕ} {u : Term} {v : ℕ} → Chain s top u v → v ≤ top
@@ -111,26 +115,9 @@ chain-end {s} {top} {u} {v} c z =
 
 -- ---- a cell more
 
+-- the head becomes the link of the new cell, and the cell the head
 module _ (x s s′ : List ℕ) (top : ℕ) (u : Term) (i : Indexed x s top) (same : Same s s′ top) (new : nodeOf (getD s′ top 0) ≡ u)
-    (h : top < poolCells) where
-  chained-long : length (chained x top u) ≡ length x
-  chained-long = length-set (set x (heads + top) (getD x (hashOf u) 0)) (hashOf u) (top + 1) ∙ length-set x (heads + top) (getD x (hashOf u) 0)
-
-  chained-other : (k : ℕ) → k ≢ hashOf u → k ≢ heads + top → getD (chained x top u) k 0 ≡ getD x k 0
-  chained-other k a b =
-      getD-set-other (set x (heads + top) (getD x (hashOf u) 0)) (hashOf u) k (top + 1) 0 a
-      ∙ getD-set-other x (heads + top) k (getD x (hashOf u) 0) 0 b
-
-  chained-head : getD (chained x top u) (hashOf u) 0 ≡ top + 1
-  chained-head =
-      getD-set-same (set x (heads + top) (getD x (hashOf u) 0)) (hashOf u) (top + 1) 0
-      (omega (arith, hash-small u, i .long, length-set x (heads + top) (getD x (hashOf u) 0)))
-
-  chained-link : getD (chained x top u) (heads + top) 0 ≡ getD x (hashOf u) 0
-  chained-link =
-      getD-set-other (set x (heads + top) (getD x (hashOf u) 0)) (hashOf u) (heads + top) (top + 1) 0 (λ e. omega (arith, hash-small u))
-      ∙ getD-set-same x (heads + top) (getD x (hashOf u) 0) 0 (omega (arith, i .long))
-
+    (linked : linkOf (getD s′ top 0) ≡ getD x (hashOf u) 0) (h : top < poolCells) where
   hash-new : hashAt s′ top ≡ hashOf u
   hash-new = ap hashOf new
 
@@ -147,30 +134,34 @@ module _ (x s s′ : List ℕ) (top : ℕ) (u : Term) (i : Indexed x s top) (sam
         ];
       }
 
-  head-now : (k : ℕ) → k < heads → Last s′ k (top + 1) (getD (chained x top u) k 0)
+  head-now : (k : ℕ) → k < heads → Last s′ k (top + 1) (getD (set x (hashOf u) (top + 1)) k 0)
   head-now k l = elim (ℕ-discrete k (hashOf u)) [
-    | yes e ↦ rw (e, chained-head) (
+    | yes e ↦ rw (e, getD-set-same x (hashOf u) (top + 1) 0 (omega (arith, hash-small u, i .long))) (
         record {
           most = omega arith;
           there = λ j. let z : top + 1 - 1 ≡ top = omega arith in ap (hashAt s′) z ∙ hash-new;
           after = λ j a b d. omega arith;
         }
         )
-    | no d ↦ rw (chained-other k d (λ e. omega arith)) (last-more (i .head k l) d)
+    | no d ↦ rw (getD-set-other x (hashOf u) k (top + 1) 0 d) (last-more (i .head k l) d)
   ]
 
-  link-now : (k : ℕ) → k < top + 1 → Last s′ (hashAt s′ k) k (getD (chained x top u) (heads + k) 0)
+  link-now : (k : ℕ) → k < top + 1 → Last s′ (hashAt s′ k) k (linkOf (getD s′ k 0))
   link-now k l = elim (decLt k top) [
-    | yes near ↦
-        rw (chained-other (heads + k) (λ e. omega (arith, hash-small u)) (λ e. omega arith), same-hash s s′ top same k near)
-        (last-same s s′ top same (omega arith) (i .link k near))
+    | yes near ↦ link-same s′ i same k near
     | no far ↦
         let z : k ≡ top = omega arith in
-        rw (z, chained-link, hash-new) (last-same s s′ top same (omega arith) (i .head (hashOf u) (hash-small u)))
+        rw (z, linked, hash-new) (last-same s s′ top same (omega arith) (i .head (hashOf u) (hash-small u)))
   ]
 
-  pub indexed-more : Indexed (chained x top u) s′ (top + 1)
-  indexed-more = record { long = omega (arith, chained-long, i .long); few = omega arith; head = head-now; link = link-now }
+  pub indexed-more : Indexed (set x (hashOf u) (top + 1)) s′ (top + 1)
+  indexed-more =
+      record {
+        long = omega (arith, length-set x (hashOf u) (top + 1), i .long);
+        few = omega arith;
+        head = head-now;
+        link = link-now;
+      }
 
 -- ---- a pool that is open for more nodes
 

@@ -8,21 +8,20 @@ use mathlib.Core.Bool.{Bool, true, false, _&&_}
 use mathlib.Core.List.{List}
 use borrow.Author.Tests.{eqb-true, eq-eqb, ne-eqb}
 use lib.Dec.{eqb}
-use lib.ListN.{length, getD}
-use lib.Seq.{getD-set-same}
+use lib.ListN.{getD, set}
 use Rattle.meaning.specs.Re.{Re}
 use Rattle.meaning.specs.Order.{rank}
 use Rattle.meaning.specs.Tests.{clash, and-true, true-and}
 use Rattle.term.specs.declared.Term.{Term}
 use Rattle.term.specs.declared.Term.the-variants.{Nothing, Empty, Range, Cat, Alt, Star}
-use Rattle.term.specs.Cells.{nodeOf, cellOf, grow, term, Below, Sound}
-use Rattle.term.specs.Nodes.{kindOf, firstOf, secondOf, Pushed}
+use Rattle.term.specs.Cells.{nodeOf, grow, term, Below}
+use Rattle.term.specs.Nodes.{kindOf, firstOf, secondOf, Held}
 use Rattle.term.specs.ReadLaws.{rank-grow, rebuild, of-kind}
-use Rattle.term.specs.CellLaws.{Same, frame, term-node, node-cell, below-fields}
+use Rattle.term.specs.CellLaws.{Same, frame, term-node}
 use Rattle.walk.specs.Parts.{holds, withTerm, InPool}
 use Rattle.walk.specs.PartsLaws.{term-held, term-new}
 use Rattle.pool.specs.Pooled.{termsOf, Pooled}
-use Rattle.pool.specs.Index.{poolCells, Indexed, chained, After}
+use Rattle.pool.specs.Index.{poolCells, hashOf, Indexed, After}
 use Rattle.pool.specs.Steps.{sameNode, Looked}
 use Rattle.pool.specs.PoolLaws.{held-stands, term-held-below, terms-frame, same-number}
 use Rattle.pool.specs.IndexLaws.{indexed-more}
@@ -55,12 +54,6 @@ pub by-second : (u w : Term) → kindOf u ≡ kindOf w → firstOf u ≡ firstOf
 by-second u w e f p q = rw (eq-eqb (kindOf u) (kindOf w) e, eq-eqb (firstOf u) (firstOf w) f, p, q)
 
 -- ---- nodes and terms
-
--- a stored node is the one that stands in its cell
-pushed-node : {s : List ℕ} {top : ℕ} {u : Term} {s′ : List ℕ} {next : ℕ} → Sound s top → Below u top → Pushed s top u s′ next → top < length s
-    → nodeOf (getD s′ top 0) ≡ u
-pushed-node {s} {top} {u} ok b n h =
-    rw (n .memory, getD-set-same s top (cellOf u) 0 h) (node-cell u (below-fields u top (omega (arith, ok .small)) b))
 
 pub below-more : (u : Term) (i j : ℕ) → Below u i → i ≤ j → Below u j
 below-more Nothing i j b h = tt
@@ -136,16 +129,16 @@ module _ (x s : List ℕ) (top : ℕ) (u : Term) (p : Pooled s top) (i : Indexed
       absurd (none (t .at) (t .within) (term-cell (t .at) (t .within) (t .is)))
   not-held none false e = e
 
-  pub put-new : (r : ℕ) (s′ : List ℕ) (next : ℕ) → top ≤ r → Looked s top u r → Pushed s top u s′ next → top < poolCells → top < length s
-      → After s top (withTerm (termsOf s top) (grow u (term s))) (chained x top u) s′ top next (grow u (term s)) (top + 1)
+  pub put-new : (r : ℕ) (s′ : List ℕ) (next : ℕ) → top ≤ r → Looked s top u r
+      → {hash : ℕ} → hash ≡ hashOf u → Held s top u (getD x hash 0) s′ next → top < poolCells
+      → After s top (withTerm (termsOf s top) (grow u (term s))) (set x hash next) s′ top next (grow u (term s)) (top + 1)
   unfolding termsOf
-  put-new r s′ next h l n few room =
+  put-new r s′ next h l at-hash n few =
       let new : holds (termsOf s top) (grow u (term s)) ≡ false =
       not-held (l .absent h) (holds (termsOf s top) (grow u (term s))) refl in
       let g = n .makes .grown in
       let same : Same s s′ top = g .kept-below in
       let at : next ≡ suc top = omega (arith, n .after) in
-      let node : nodeOf (getD s′ top 0) ≡ u = pushed-node (p .sound) b n room in
       let is : term s′ top ≡ grow u (term s) = n .makes .is in
       let t : (i : ℕ) → i < top → term s′ i ≡ term s i = λ i k. frame s s′ top i (p .sound) same k in
       record {
@@ -160,7 +153,7 @@ module _ (x s : List ℕ) (top : ℕ) (u : Term) (p : Pooled s top) (i : Indexed
                 clash (rw f at (term-held-below s top i (omega arith))) new
           ];
         };
-        indexed = rw (n .after) (indexed-more x s s′ top u i same node few);
+        indexed = rw (n .after, at-hash) (indexed-more x s s′ top u i same (n .node) (rw at-hash at (n .linked)) few);
         up = omega arith;
         few = omega arith;
         within = omega arith;

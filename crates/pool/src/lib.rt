@@ -7,7 +7,7 @@ ghost use Rattle.term.specs.Cells.{term, grow, Below, Sound};
 ghost use Rattle.term.specs.Nodes.{Fields};
 ghost use Rattle.walk.specs.Parts.{withTerm};
 ghost use Rattle.pool.specs.Pooled.{termsOf};
-ghost use Rattle.pool.specs.Index.{poolCells, indexCells, hashOf, chained, Indexed, Open, After};
+ghost use Rattle.pool.specs.Index.{hashOf, Indexed, Open, After};
 ghost use Rattle.pool.specs.Steps.{sameNode, Looked, Seen};
 use number::limits::POOL;
 use number::limits::RULES;
@@ -16,17 +16,17 @@ use term::CAT;
 use term::STAR;
 use term::Term;
 use term::first_of;
+use term::hold;
 use term::kind_of;
+use term::link_at;
 use term::node_at;
-use term::push;
 use term::second_of;
 
-// The cells of a pool: what may be held, and one vector more that is not held yet. Its index has a head for each hash, then a link for each cell.
+// The cells of a pool: what may be held, and one vector more that is not held yet.
 pub const POOL_CELLS: usize = POOL + RULES * TREE_NODES;
 
-const HEADS: usize = POOL;
-
-pub const INDEX_CELLS: usize = HEADS + POOL_CELLS;
+// The length of its index: a head for each hash. The links of the chains stand in the cells.
+pub const HEADS: usize = POOL;
 
 // The cell of a term, and the next free cell.
 pub struct Placed {
@@ -56,37 +56,25 @@ fn hash_of(node: Term) -> usize
 }
 
 // The cell below `top` that holds this node, looked for along the chain of its hash, or `top` where none does.
-fn find_cell(index: &[usize], cells: &[u64], top: usize, node: Term) -> usize
+fn find_cell(index: &[u16], cells: &[u64], top: usize, node: Term) -> usize
     requires { ⌜ Indexed (now index) (now cells) top ⌝ }
     requires { ⌜ top ≤ length (now cells) ⌝ }
     requires { ⌜ Fields node ⌝ }
     ensures { λ r. ⌜ Looked (now (cells .entry)) top node r ⌝ }
 {
-    let mut next = index[hash_of(node)];
+    let mut next = index[hash_of(node)] as usize;
     while 0 < next {
         let at = next - 1;
         if same_node(node_at(cells, at), node) {
             return at;
         }
-        next = index[HEADS + at];
+        next = link_at(cells, at);
     }
     top
 }
 
-// The new node in cell `top` goes to the front of its chain.
-fn chain(index: &mut [usize], top: usize, node: Term)
-    requires { ⌜ Fields node ⌝ }
-    requires { ⌜ indexCells ≤ length (now index) ⌝ }
-    requires { ⌜ top < poolCells ⌝ }
-    ensures { λ _. ⌜ now (index .exit) ≡ chained (now (index .entry)) top node ⌝ }
-{
-    let hash = hash_of(node);
-    index[HEADS + top] = index[hash];
-    index[hash] = top + 1;
-}
-
-// Puts a node whose children stand in the pool into the pool: in the cell that holds it already, or in a new one.
-pub fn put_node(index: &mut [usize], cells: &mut [u64], top: usize, node: Term) -> Placed
+// Puts a node whose children stand in the pool into the pool: in the cell that holds it already, or in a new one at the front of its chain.
+pub fn put_node(index: &mut [u16], cells: &mut [u64], top: usize, node: Term) -> Placed
     requires { ⌜ Open (now index) (now cells) top 1 ⌝ }
     requires { ⌜ Below node top ⌝ }
     ensures { λ r. ⌜ After (now (cells .entry)) top (withTerm (termsOf (now (cells .entry)) top) (grow node (term (now (cells .entry)))))
@@ -96,8 +84,10 @@ pub fn put_node(index: &mut [usize], cells: &mut [u64], top: usize, node: Term) 
     if at < top {
         return Placed { root: at, top: top };
     }
-    let next = push(cells, top, node);
-    chain(index, top, node);
+    let hash = hash_of(node);
+    let link = index[hash] as usize;
+    let next = hold(cells, top, node, link);
+    index[hash] = next as u16;
     Placed {
         root: top,
         top: next,
@@ -106,7 +96,7 @@ pub fn put_node(index: &mut [usize], cells: &mut [u64], top: usize, node: Term) 
 
 // The cell of the pool that holds the term in cell `i`, which may stand in scratch above the pool, or `top` where it is not found.
 // Only nodes in scratch are gone over, and nothing is copied.
-pub fn find_term(index: &[usize], cells: &[u64], top: usize, i: usize) -> usize
+pub fn find_term(index: &[u16], cells: &[u64], top: usize, i: usize) -> usize
     requires { ⌜ Indexed (now index) (now cells) top ⌝ }
     requires { ⌜ Sound (now cells) top ⌝ }
     requires { ⌜ Sound (now cells) (i + 1) ⌝ }

@@ -45,7 +45,7 @@ fn copy_out(cells: &[u64], i: usize, out: &mut [u64], at: usize) -> usize
 }
 
 // Puts a term that stands in another area into the pool with all its parts, children first.
-fn put_copy(out: &[u64], k: usize, index: &mut [usize], cells: &mut [u64], top: usize) -> Placed
+fn put_copy(out: &[u64], k: usize, index: &mut [u16], cells: &mut [u64], top: usize) -> Placed
     requires { ⌜ Sound (now out) (k + 1) ⌝ }
     requires { ⌜ Open (now index) (now cells) top (size (term (now out) k)) ⌝ }
     ensures { λ r. ⌜ Put (now (cells .entry)) top (termsOf (now (cells .entry)) top) (now (index .exit)) (now (cells .exit)) (r .root) (r .top)
@@ -69,7 +69,7 @@ fn put_copy(out: &[u64], k: usize, index: &mut [usize], cells: &mut [u64], top: 
 
 // Puts the term in cell `i`, in the pool or in scratch above it, into the pool at `top`; the scratch is given up.
 // Most derivatives are held already, and then nothing is put.
-pub fn put_term(index: &mut [usize], cells: &mut [u64], top: usize, i: usize) -> Placed
+pub fn put_term(index: &mut [u16], cells: &mut [u64], top: usize, i: usize) -> Placed
     requires { ⌜ Open (now index) (now cells) top treeNodes ⌝ }
     requires { ⌜ Sound (now cells) (i + 1) ⌝ }
     requires { ⌜ size (term (now cells) i) ≤ treeNodes ⌝ }

@@ -12,7 +12,7 @@ use table::fill;
 
 // The row of item `i` goes into its 256 targets, run by run; the answer tells what is held then, and no number.
 pub fn fill_row(
-    index: &mut [usize],
+    index: &mut [u16],
     cells: &mut [u64],
     top: usize,
     count: usize,

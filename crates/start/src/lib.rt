@@ -11,7 +11,7 @@ use vector::Vector;
 use vector::layout::NOTHING_CELL;
 
 // The vector of a book's `n` rules in normal form, in a pool with its index that holds nothing else; or that a rule or a part of one is too long.
-pub fn first_vector(book: &[u8], n: usize, index: &mut [usize], cells: &mut [u64]) -> Derived
+pub fn first_vector(book: &[u8], n: usize, index: &mut [u16], cells: &mut [u64]) -> Derived
     requires { ⌜ Opened (now book) n (now cells) ⌝ }
     requires { ⌜ Indexed (now index) (now cells) 0 ⌝ }
     ensures { λ r. ⌜ Starts (now (book .entry)) n (now (cells .exit)) r ⌝ }

@@ -21,7 +21,7 @@ pub enum Stepped {
 // The step from item `i`, whose number is told as `place`, by a byte, where the sheet goes to state `sheet`;
 // one item more than `limit` is refused with `full`.
 pub fn step(
-    index: &mut [usize],
+    index: &mut [u16],
     cells: &mut [u64],
     top: usize,
     count: usize,

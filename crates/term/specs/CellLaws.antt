@@ -1,49 +1,71 @@
 -- Laws of cells, proved: a stored node is read back, and a term below top stays what it is however the cells above change.
 -- Callers go by `found`, `frame` and the laws of growth and of what was made; none looks into a cell.
-use Prim.Native.Nat.{ℕ, zero, suc, _+_, _%_, _<_, _≤_}
+use Prim.Native.Nat.{ℕ, zero, suc, _+_, _/_, _%_, _<_, _≤_}
 use native.Mathlib.Omega.{arith}
-use mathlib.Core.Path.{_≡_, refl, ap, _∙_}
+use mathlib.Core.Path.{_≡_, refl, ap, subst, _∙_}
+use mathlib.Core.Bool.{Bool, true, false}
 use mathlib.Core.List.{List}
 use mathlib.Core.Logic.{_≢_}
+use mir.Val.{boolByte}
+use lib.Dec.{eqb}
 use lib.ListN.{length, getD, set, length-set}
 use lib.Seq.{getD-set-same, getD-set-other}
 use borrow.Author.Count.{below-more}
 use Rattle.number.specs.Limits.{lastByte, workCells}
 use Rattle.meaning.specs.Re.{Re, isNothing, isEmpty}
+use Rattle.meaning.specs.Derive.{nullable}
 use Rattle.term.specs.declared.Term.{Term}
 use Rattle.term.specs.declared.Term.the-variants.{Nothing, Empty, Range, Cat, Alt, Star}
-use Rattle.term.specs.Cells.{fieldSize, kindSize, first, second, packed, nodeOf, cellOf, grow, termBy, term, Below, Sound}
+use Rattle.term.specs.Cells.{fieldSize, kindSize, first, second, bitPlace, linkOf, emptyOf, nodeOf, grow, termBy, term, Below, Layered, Sound}
 use Rattle.term.specs.Area.{Wasted, GrownFree, Grown, Room, MakesFree, Makes}
-use Rattle.term.specs.Nodes.{Fields, nothingNode, emptyNode, Found, Pushed}
+use Rattle.term.specs.Nodes.{kindOf, firstOf, secondOf, Fields, cellOf, nothingNode, emptyNode, Found, Over, Held}
+use Rattle.term.specs.ReadLaws.{kind-most}
 
 -- ---- a cell gives its node back
 
-packed-kind : (k a b : ℕ) → k < kindSize → packed k a b % kindSize ≡ k
-packed-kind k a b h = omega arith
+pub bit-small : (empty : Bool) → boolByte empty < 2
+bit-small true = omega arith
+bit-small false = omega arith
 
-packed-first : (k a b : ℕ) → k < kindSize → a < fieldSize → first (packed k a b) ≡ a
-packed-first k a b h f = omega arith
+bit-back : (empty : Bool) → eqb (boolByte empty) 1 ≡ empty
+bit-back true = refl
+bit-back false = refl
 
-packed-second : (k a b : ℕ) → k < kindSize → a < fieldSize → b < fieldSize → second (packed k a b) ≡ b
-packed-second k a b h f g = omega arith
+module _ (link : ℕ) (empty : Bool) where
+  module _ (u : Term) (f : Fields u) where
+    kind-cell : cellOf u link empty % kindSize ≡ kindOf u
+    unfolding cellOf
+    kind-cell = omega (arith, kind-most u)
 
-pub node-cell : (u : Term) → Fields u → nodeOf (cellOf u) ≡ u
-unfolding nodeOf cellOf
-node-cell Nothing f = refl
-node-cell Empty f = refl
-node-cell (Range lo hi) f =
-    simp (
-      packed-kind 2 lo hi (omega arith),
-      packed-first 2 lo hi (omega arith) (f .first),
-      packed-second 2 lo hi (omega arith) (f .first)
-          (f .second),
-    )
-node-cell (Cat a b) f =
-    simp (packed-kind 3 a b (omega arith), packed-first 3 a b (omega arith) (f .first), packed-second 3 a b (omega arith) (f .first) (f .second))
-node-cell (Alt a b) f =
-    simp (packed-kind 4 a b (omega arith), packed-first 4 a b (omega arith) (f .first), packed-second 4 a b (omega arith) (f .first) (f .second))
-node-cell (Star a) f =
-    simp (packed-kind 5 a 0 (omega arith), packed-first 5 a 0 (omega arith) (f .first))
+    first-cell : first (cellOf u link empty) ≡ firstOf u
+    unfolding cellOf
+    first-cell = omega (arith, kind-most u, f .first)
+
+    second-cell : second (cellOf u link empty) ≡ secondOf u
+    unfolding cellOf
+    second-cell = omega (arith, kind-most u, f .first, f .second)
+
+    module _ (h : link < fieldSize) where
+      link-cell : linkOf (cellOf u link empty) ≡ link
+      unfolding cellOf linkOf
+      link-cell = omega (arith, kind-most u, f .first, f .second)
+
+      bit-cell : cellOf u link empty / bitPlace % 2 ≡ boolByte empty
+      unfolding cellOf
+      bit-cell = omega (arith, kind-most u, f .first, f .second, bit-small empty)
+
+      empty-cell : emptyOf (cellOf u link empty) ≡ empty
+      unfolding emptyOf
+      empty-cell = rw bit-cell (bit-back empty)
+
+  node-cell : (u : Term) → Fields u → nodeOf (cellOf u link empty) ≡ u
+  unfolding nodeOf
+  node-cell Nothing f = simp (kind-cell Nothing f)
+  node-cell Empty f = simp (kind-cell Empty f)
+  node-cell (Range lo hi) f = simp (kind-cell (Range lo hi) f, first-cell (Range lo hi) f, second-cell (Range lo hi) f)
+  node-cell (Cat a b) f = simp (kind-cell (Cat a b) f, first-cell (Cat a b) f, second-cell (Cat a b) f)
+  node-cell (Alt a b) f = simp (kind-cell (Alt a b) f, first-cell (Alt a b) f, second-cell (Alt a b) f)
+  node-cell (Star a) f = simp (kind-cell (Star a) f, first-cell (Star a) f)
 
 -- a node that may stand in a cell of the area fits a cell
 pub below-fields : (u : Term) (i : ℕ) → i < workCells → Below u i → Fields u
@@ -69,26 +91,29 @@ abbrev pub Same : List ℕ → List ℕ → ℕ → Type 0
 Same s s′ top = (j : ℕ) → j < top → getD s′ j 0 ≡ getD s j 0
 
 -- steps enough are enough, and cells from top on do not matter
-agree : (n m : ℕ) (s s′ : List ℕ) (top i : ℕ) → Sound s top → Same s s′ top → i < top → i < n → i < m → termBy n s′ i ≡ termBy m s i
+agree : (n m : ℕ) (s s′ : List ℕ) (top i : ℕ) → Layered s top → Same s s′ top → i < top → i < n → i < m → termBy n s′ i ≡ termBy m s i
 unfolding termBy
 agree zero m s s′ top i ok same h k l = absurd (omega arith)
 agree (suc n) zero s s′ top i ok same h k l = absurd (omega arith)
 agree (suc n) (suc m) s s′ top i ok same h k l =
     ap (λ (c : ℕ). grow (nodeOf c) (termBy n s′)) (same i h)
-    ∙ grow-agree (nodeOf (getD s i 0)) i (termBy n s′) (termBy m s) (ok .nodes i h)
+    ∙ grow-agree (nodeOf (getD s i 0)) i (termBy n s′) (termBy m s) (ok i h)
     (λ j b. agree n m s s′ top j ok same (omega arith) (omega arith) (omega arith))
 
 -- the frame: a term below top is that of its cells below top
 pub frame : (s s′ : List ℕ) (top i : ℕ) → Sound s top → Same s s′ top → i < top → term s′ i ≡ term s i
 unfolding term
-frame s s′ top i ok same h = agree (suc i) (suc i) s s′ top i ok same h (omega arith) (omega arith)
+frame s s′ top i ok same h = agree (suc i) (suc i) s s′ top i (ok .nodes) same h (omega arith) (omega arith)
 
 -- a node's term by its children's terms
-pub term-node : (s : List ℕ) (top i : ℕ) → Sound s top → i < top → term s i ≡ grow (nodeOf (getD s i 0)) (term s)
+layer-node : (s : List ℕ) (top i : ℕ) → Layered s top → i < top → term s i ≡ grow (nodeOf (getD s i 0)) (term s)
 unfolding term termBy
-term-node s top i ok h =
-    grow-agree (nodeOf (getD s i 0)) i (termBy i s) (term s) (ok .nodes i h)
+layer-node s top i ok h =
+    grow-agree (nodeOf (getD s i 0)) i (termBy i s) (term s) (ok i h)
     (λ j b. agree i (suc j) s s top j ok (λ k l. refl) (omega arith) b (omega arith))
+
+pub term-node : (s : List ℕ) (top i : ℕ) → Sound s top → i < top → term s i ≡ grow (nodeOf (getD s i 0)) (term s)
+term-node s top i ok h = layer-node s top i (ok .nodes) h
 
 -- what node_at tells
 pub found : (s : List ℕ) (top i : ℕ) (u : Term) → Sound s top → i < top → u ≡ nodeOf (getD s i 0) → Found s i u
@@ -149,13 +174,14 @@ term-bounded s top i ok h = by-bounded (suc i) s top i ok h
 
 -- an area in which nothing stands yet
 pub sound-none : (s : List ℕ) → length s ≤ workCells → Sound s 0
-sound-none s h = record { nodes = λ i k. absurd (omega arith); room = omega arith; small = h }
+sound-none s h = record { nodes = λ i k. absurd (omega arith); bits = λ i k. absurd (omega arith); room = omega arith; small = h }
 
 -- an area that is changed from top on only, as by terms above it that are given up
 pub sound-same : {s : List ℕ} {top : ℕ} (s′ : List ℕ) → Sound s top → Same s s′ top → length s′ ≡ length s → Sound s′ top
-sound-same s′ ok same e =
+sound-same {s} {top} s′ ok same e =
     record {
       nodes = λ i h. rw (same i h) (ok .nodes i h);
+      bits = λ i h. rw (same i h, frame s s′ top i ok same h) (ok .bits i h);
       room = omega arith;
       small = omega arith;
     }
@@ -164,9 +190,21 @@ pub sound-less : {s : List ℕ} {top : ℕ} (less : ℕ) → Sound s top → les
 sound-less less ok h =
     record {
       nodes = λ i k. ok .nodes i (omega arith);
+      bits = λ i k. ok .bits i (omega arith);
       room = omega arith;
       small = ok .small;
     }
+
+-- so the children of a node that stands over sound cells can be read
+module _ {s : List ℕ} {u : Term} {a b : ℕ} (o : Over s u) where
+  both-sound : (a < o .top) × (b < o .top) → Sound s (a + 1) × Sound s (b + 1)
+  both-sound l = (sound-less (a + 1) (o .sound) (omega arith), sound-less (b + 1) (o .sound) (omega arith))
+
+  pub over-cat : u ≡ Cat a b → Sound s (a + 1) × Sound s (b + 1)
+  over-cat e = both-sound (subst (λ (v : Term). Below v (o .top)) e (o .below))
+
+  pub over-alt : u ≡ Alt a b → Sound s (a + 1) × Sound s (b + 1)
+  over-alt e = both-sound (subst (λ (v : Term). Below v (o .top)) e (o .below))
 
 pub grown-refl : {free : ℕ} {s : List ℕ} {top : ℕ} → Sound s top → GrownFree free s top s top
 grown-refl ok =
@@ -257,33 +295,55 @@ makes-kept {free} {s} {s′} {s″} {top} {top′} {root} after m g h =
 
 -- ---- a stored node
 
-pub pushed : (s : List ℕ) (top : ℕ) (u : Term) (s′ : List ℕ) (next : ℕ) → Sound s top → top < length s → Below u top
-    → s′ ≡ set s top (cellOf u) → next ≡ top + 1 → Pushed s top u s′ next
-pushed s top u s′ next ok h b e n =
-    let small : top < workCells = omega arith in
-    let here : getD s′ top 0 ≡ cellOf u = rw e (getD-set-same s top (cellOf u) 0 h) in
-    let node : nodeOf (getD s′ top 0) ≡ u = rw here (node-cell u (below-fields u top small b)) in
-    let other : (i : ℕ) → i ≢ top → getD s′ i 0 ≡ getD s i 0 = λ i d. rw e (getD-set-other s top i (cellOf u) 0 d) in
-    let long : length s′ ≡ length s = rw e (length-set s top (cellOf u)) in
-    let same : Same s s′ top = λ i k. other i (λ z. omega arith) in
-    let sound : Sound s′ next = record {
-      nodes = λ i k. below-more (λ (j : ℕ). Below (nodeOf (getD s′ j 0)) j) top (λ j l. rw (same j l) (ok .nodes j l)) (rw node b) i (omega arith);
-      room = omega arith;
-      small = omega arith;
-    } in
-    record {
-      memory = e;
-      after = n;
-      makes = record {
-        grown = record {
-          up = omega arith;
-          same-length = long;
-          kept-below = same;
-          kept-above = λ i k. other i (λ z. omega arith);
-          sound = sound;
+module _ (s : List ℕ) (top : ℕ) (u : Term) (link : ℕ) (empty : Bool) (s′ : List ℕ) (ok : Sound s top) (h : top < length s) (b : Below u top)
+    (l : link < fieldSize) (t : empty ≡ nullable (grow u (term s))) (e : s′ ≡ set s top (cellOf u link empty)) where
+  here : getD s′ top 0 ≡ cellOf u link empty
+  here = rw e (getD-set-same s top (cellOf u link empty) 0 h)
+
+  other : (i : ℕ) → i ≢ top → getD s′ i 0 ≡ getD s i 0
+  other i d = rw e (getD-set-other s top i (cellOf u link empty) 0 d)
+
+  same : Same s s′ top
+  same i k = other i (λ z. omega arith)
+
+  long : length s′ ≡ length s
+  long = rw e (length-set s top (cellOf u link empty))
+
+  fits : Fields u
+  fits = below-fields u top (omega (arith, ok .small)) b
+
+  node : nodeOf (getD s′ top 0) ≡ u
+  node = rw here (node-cell link empty u fits)
+
+  layered : Layered s′ (top + 1)
+  layered i k = below-more (λ (j : ℕ). Below (nodeOf (getD s′ j 0)) j) top (λ j m. rw (same j m) (ok .nodes j m)) (rw node b) i k
+
+  is : term s′ top ≡ grow u (term s)
+  is =
+      layer-node s′ (top + 1) top layered (omega arith)
+      ∙ rw node (grow-agree u top (term s′) (term s) b (λ j k. frame s s′ top j ok same k))
+
+  bits : (i : ℕ) → i < top + 1 → emptyOf (getD s′ i 0) ≡ nullable (term s′ i)
+  bits i k =
+      below-more (λ (j : ℕ). emptyOf (getD s′ j 0) ≡ nullable (term s′ j)) top
+      (λ j m. rw (same j m, frame s s′ top j ok same m) (ok .bits j m)) (rw (here, is) (empty-cell link empty u fits l ∙ t)) i k
+
+  pub held : Held s top u link s′ (top + 1)
+  held =
+      record {
+        after = refl;
+        node = node;
+        linked = rw here (link-cell link empty u fits l);
+        makes = record {
+          grown = record {
+            up = omega arith;
+            same-length = long;
+            kept-below = same;
+            kept-above = λ i k. other i (λ z. omega arith);
+            sound = record { nodes = layered; bits = bits; room = omega (arith, long); small = omega (arith, long, ok .small) };
+          };
+          within = omega arith;
+          is = is;
+          few = omega arith;
         };
-        within = omega arith;
-        is = term-node s′ next top sound (omega arith) ∙ rw node (grow-agree u top (term s′) (term s) b (λ j k. frame s s′ top j ok same k));
-        few = omega arith;
-      };
-    }
+      }

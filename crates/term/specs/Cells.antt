@@ -1,12 +1,14 @@
--- A term in the work area: one cell a node, its kind and two fields, a range's bounds or the numbers of the cells of its children.
--- A child's number is below its parent's, so a term is read off by going down.
+-- A term in the work area: one cell a node, its kind and two fields, a range's bounds or the numbers of the cells of its children, which are
+-- below its own: a term is read off by going down. A cell has a bit too, whether its term matches the empty text, and a link to another cell.
 use Prim.Native.Nat.{ℕ, zero, suc, _+_, _*_, _/_, _%_, _<_, _≤_}
-use mathlib.Core.Bool.{Bool, true, false, cond}
+use mathlib.Core.Path.{_≡_}
+use mathlib.Core.Bool.{Bool, cond}
 use mathlib.Core.List.{List}
 use lib.Dec.{eqb}
 use lib.ListN.{length, getD}
 use Rattle.number.specs.Limits.{lastByte, workCells}
 use Rattle.meaning.specs.Re.{Re}
+use Rattle.meaning.specs.Derive.{nullable}
 use Rattle.term.specs.declared.Term.{Term}
 use Rattle.term.specs.declared.Term.the-variants.{Nothing, Empty, Range, Cat, Alt, Star}
 
@@ -24,6 +26,24 @@ first cell = cell / kindSize % fieldSize
 abbrev pub second : ℕ → ℕ
 second cell = cell / (kindSize * fieldSize) % fieldSize
 
+-- the places of the link and of the bit
+abbrev pub linkPlace : ℕ
+linkPlace = kindSize * fieldSize * fieldSize
+
+abbrev pub bitPlace : ℕ
+bitPlace = linkPlace * fieldSize
+
+-- a cell by its kind, its two fields, its link and its bit
+abbrev pub packed : ℕ → ℕ → ℕ → ℕ → ℕ → ℕ
+packed kind a b link bit = kind + kindSize * a + kindSize * fieldSize * b + linkPlace * link + bitPlace * bit
+
+-- the link in a cell, and what its bit says
+unfoldable pub linkOf : ℕ → ℕ
+linkOf cell = cell / linkPlace % fieldSize
+
+unfoldable pub emptyOf : ℕ → Bool
+emptyOf cell = eqb (cell / bitPlace % 2) 1
+
 -- the node in a cell
 unfoldable pub nodeOf : ℕ → Term
 nodeOf cell =
@@ -33,18 +53,6 @@ nodeOf cell =
     (cond (eqb (cell % kindSize) 4) (Alt (first cell) (second cell))
     (cond (eqb (cell % kindSize) 5) (Star (first cell))
     Nothing))))
-
--- the cell of a node
-abbrev pub packed : ℕ → ℕ → ℕ → ℕ
-packed kind a b = kind + kindSize * a + kindSize * fieldSize * b
-
-unfoldable pub cellOf : Term → ℕ
-cellOf Nothing = packed 0 0 0
-cellOf Empty = packed 1 0 0
-cellOf (Range lo hi) = packed 2 lo hi
-cellOf (Cat a b) = packed 3 a b
-cellOf (Alt a b) = packed 4 a b
-cellOf (Star a) = packed 5 a 0
 
 -- the term of a node, given the terms of its children
 abbrev pub grow : Term → (ℕ → Re) → Re
@@ -73,7 +81,12 @@ Below (Alt a b) i = (a < i) × (b < i)
 Below (Star a) i = a < i
 
 -- all cells below top hold such nodes
+abbrev pub Layered : List ℕ → ℕ → Type 0
+Layered s top = (i : ℕ) → i < top → Below (nodeOf (getD s i 0)) i
+
+-- and their bits tell whether their terms match the empty text
 pub record Sound (s : List ℕ) (top : ℕ) : Type 0 where
-  pub nodes : (i : ℕ) → i < top → Below (nodeOf (getD s i 0)) i
+  pub nodes : Layered s top
+  pub bits : (i : ℕ) → i < top → emptyOf (getD s i 0) ≡ nullable (term s i)
   pub room : top ≤ length s
   pub small : length s ≤ workCells

@@ -5,7 +5,7 @@ pub mod Area
 pub mod Nodes
 pub mod Counts
 pub mod Compares
-pub mod CellLaws
 pub mod ReadLaws
+pub mod CellLaws
 pub mod CountLaws
 pub mod CompareLaws

@@ -1,15 +1,16 @@
 -- What the code asks of a node, and what reading and storing one tells; also the code's answer of a comparison.
--- Found and Pushed are the records that callers of node_at and push cite.
+-- Found, Held and Pushed are the records that callers of node_at, hold and push cite.
 use Prim.Native.Nat.{ℕ, _+_, _<_, Ordering, Ordering·lt, Ordering·eq, Ordering·gt}
 use mathlib.Core.Path.{_≡_}
 use mathlib.Core.Bool.{Bool, true, false}
 use mathlib.Core.List.{List}
-use lib.ListN.{set}
+use mir.Val.{boolByte}
+use lib.ListN.{getD}
 use Rattle.term.specs.declared.Term.{Term}
 use Rattle.term.specs.declared.Term.the-variants.{Nothing, Empty, Range, Cat, Alt, Star}
 use Rattle.term.specs.declared.Order.{Order}
 use Rattle.term.specs.declared.Order.the-variants.{Less, Equal, Greater}
-use Rattle.term.specs.Cells.{fieldSize, cellOf, grow, term, Below}
+use Rattle.term.specs.Cells.{fieldSize, packed, linkOf, nodeOf, grow, term, Below, Sound}
 use Rattle.term.specs.Area.{Makes}
 
 -- the place of its kind in the order of terms
@@ -43,6 +44,10 @@ pub record Fields (u : Term) : Type 0 where
   pub first : firstOf u < fieldSize
   pub second : secondOf u < fieldSize
 
+-- the cell of a node with a link, and with what its bit is to say
+unfoldable pub cellOf : Term → ℕ → Bool → ℕ
+cellOf u link empty = packed (kindOf u) (firstOf u) (secondOf u) link (boolByte empty)
+
 abbrev pub nothingNode : Term → Bool
 nothingNode Nothing = true
 nothingNode Empty = false
@@ -70,8 +75,19 @@ pub record Found (s : List ℕ) (i : ℕ) (u : Term) : Type 0 where
   pub below : Below u i
   pub is : term s i ≡ grow u (term s)
 
--- a node was stored at top: the memory exactly, and the term that it makes of the terms that stood there before
-pub record Pushed (s : List ℕ) (top : ℕ) (u : Term) (s′ : List ℕ) (next : ℕ) : Type 0 where
-  pub memory : s′ ≡ set s top (cellOf u)
+-- the children of a node stand in sound cells
+pub record Over (s : List ℕ) (u : Term) : Type 0 where
+  pub top : ℕ
+  pub sound : Sound s top
+  pub below : Below u top
+
+-- a node was stored at top with a link: what its cell tells, and the term that it makes of the terms that stood there before
+pub record Held (s : List ℕ) (top : ℕ) (u : Term) (link : ℕ) (s′ : List ℕ) (next : ℕ) : Type 0 where
   pub after : next ≡ top + 1
+  pub node : nodeOf (getD s′ top 0) ≡ u
+  pub linked : linkOf (getD s′ top 0) ≡ link
   pub makes : Makes s top s′ top next (grow u (term s)) 1
+
+-- one with no link
+abbrev pub Pushed : List ℕ → ℕ → Term → List ℕ → ℕ → Type 0
+Pushed s top u s′ next = Held s top u 0 s′ next

@@ -13,19 +13,10 @@ use Rattle.meaning.specs.OrderLaws.{order-self}
 use Rattle.meaning.specs.Derive.{nullable}
 use Rattle.term.specs.declared.Term.{Term}
 use Rattle.term.specs.declared.Term.the-variants.{Nothing, Empty, Range, Cat, Alt, Star}
-use Rattle.term.specs.Cells.{packed, cellOf, grow, term, Below}
+use Rattle.term.specs.Cells.{grow, term, Below}
 use Rattle.term.specs.Nodes.{kindOf, firstOf, secondOf, Found}
 
 -- ---- a node by its parts
-
-pub cell-parts : (u : Term) → packed (kindOf u) (firstOf u) (secondOf u) ≡ cellOf u
-unfolding cellOf
-cell-parts Nothing = refl
-cell-parts Empty = refl
-cell-parts (Range lo hi) = refl
-cell-parts (Cat a b) = refl
-cell-parts (Alt a b) = refl
-cell-parts (Star a) = refl
 
 pub kind-most : (u : Term) → kindOf u ≤ 5
 kind-most Nothing = omega arith
@@ -105,37 +96,38 @@ pair-size s i (Star l) f h n a b d e = absurd (n refl)
 
 -- ---- the empty text
 
-pub nothing-null : (s : List ℕ) (i : ℕ) → Found s i Nothing → nullable (term s i) ≡ false
-unfolding nullable
-nothing-null s i f = rw (f .is)
+module _ (f : ℕ → Re) {u : Term} where
+  pub nothing-null : u ≡ Nothing → false ≡ nullable (grow u f)
+  unfolding nullable
+  nothing-null e = rw e
 
-pub empty-null : (s : List ℕ) (i : ℕ) → Found s i Empty → nullable (term s i) ≡ true
-unfolding nullable
-empty-null s i f = rw (f .is)
+  pub empty-null : u ≡ Empty → true ≡ nullable (grow u f)
+  unfolding nullable
+  empty-null e = rw e
 
-pub range-null : (s : List ℕ) (i lo hi : ℕ) → Found s i (Range lo hi) → nullable (term s i) ≡ false
-unfolding nullable
-range-null s i lo hi f = rw (f .is)
+  pub range-null : {lo hi : ℕ} → u ≡ Range lo hi → false ≡ nullable (grow u f)
+  unfolding nullable
+  range-null e = rw e
 
-pub star-null : (s : List ℕ) (i a : ℕ) → Found s i (Star a) → nullable (term s i) ≡ true
-unfolding nullable
-star-null s i a f = rw (f .is)
+  pub star-null : {a : ℕ} → u ≡ Star a → true ≡ nullable (grow u f)
+  unfolding nullable
+  star-null e = rw e
 
-pub cat-null-on : (s : List ℕ) (i a b : ℕ) → Found s i (Cat a b) → nullable (term s a) ≡ true → nullable (term s i) ≡ nullable (term s b)
-unfolding nullable
-cat-null-on s i a b f e = rw (f .is, e)
+  pub cat-null-on : {a b : ℕ} → u ≡ Cat a b → nullable (f a) ≡ true → nullable (f b) ≡ nullable (grow u f)
+  unfolding nullable
+  cat-null-on e d = rw (e, d)
 
-pub cat-null-off : (s : List ℕ) (i a b : ℕ) → Found s i (Cat a b) → nullable (term s a) ≡ false → nullable (term s i) ≡ false
-unfolding nullable
-cat-null-off s i a b f e = rw (f .is, e)
+  pub cat-null-off : {a b : ℕ} → u ≡ Cat a b → nullable (f a) ≡ false → false ≡ nullable (grow u f)
+  unfolding nullable
+  cat-null-off e d = rw (e, d)
 
-pub alt-null-on : (s : List ℕ) (i a b : ℕ) → Found s i (Alt a b) → nullable (term s a) ≡ true → nullable (term s i) ≡ true
-unfolding nullable
-alt-null-on s i a b f e = rw (f .is, e)
+  pub alt-null-on : {a b : ℕ} → u ≡ Alt a b → nullable (f a) ≡ true → true ≡ nullable (grow u f)
+  unfolding nullable
+  alt-null-on e d = rw (e, d)
 
-pub alt-null-off : (s : List ℕ) (i a b : ℕ) → Found s i (Alt a b) → nullable (term s a) ≡ false → nullable (term s i) ≡ nullable (term s b)
-unfolding nullable
-alt-null-off s i a b f e = rw (f .is, e)
+  pub alt-null-off : {a b : ℕ} → u ≡ Alt a b → nullable (f a) ≡ false → nullable (f b) ≡ nullable (grow u f)
+  unfolding nullable
+  alt-null-off e d = rw (e, d)
 
 -- ---- order
 

@@ -7,8 +7,8 @@ ghost use lib.ListN.{length, getD};
 ghost use Rattle.meaning.specs.Derive.{nullable as matchesEmpty};
 ghost use Rattle.meaning.specs.Order.{order, also};
 ghost use Rattle.meaning.specs.Limited.{short};
-ghost use Rattle.term.specs.Cells.{fieldSize, kindSize, packed, nodeOf, cellOf, term, Below, Sound};
-ghost use Rattle.term.specs.Nodes.{kindOf, firstOf, secondOf, nothingNode, emptyNode, ordering, Fields, Pushed};
+ghost use Rattle.term.specs.Cells.{fieldSize, kindSize, packed, linkOf, nodeOf, grow, term, Below, Sound};
+ghost use Rattle.term.specs.Nodes.{kindOf, firstOf, secondOf, nothingNode, emptyNode, ordering, Fields, cellOf, Over, Held, Pushed};
 ghost use Rattle.term.specs.Counts.{Countable, ShortTold};
 ghost use Rattle.term.specs.Compares.{decides, Glanced};
 use number::limits::TREE_NODES;
@@ -31,10 +31,14 @@ pub enum Order {
     Greater,
 }
 
-// The packing of a cell: the kind lowest, then two fields, each as wide as a cell's number; what is above stays free.
+// The packing of a cell: the kind lowest, then two fields and a link, each as wide as a cell's number, then a bit; what is above stays free.
 const KIND_SIZE: u64 = 8;
 
 const FIELD_SIZE: u64 = WORK_CELLS as u64;
+
+const LINK_PLACE: u64 = KIND_SIZE * FIELD_SIZE * FIELD_SIZE;
+
+const BIT_PLACE: u64 = LINK_PLACE * FIELD_SIZE;
 
 // The places of kinds in the order: those from Cat on have children.
 pub const CAT: usize = 3;
@@ -111,21 +115,34 @@ pub fn second_of(t: Term) -> usize
     }
 }
 
-fn pack(kind: u64, first: usize, second: usize) -> u64
+fn pack(kind: u64, first: usize, second: usize, link: usize, bit: u64) -> u64
     requires { ⌜ kind < kindSize ⌝ }
     requires { ⌜ first < fieldSize ⌝ }
     requires { ⌜ second < fieldSize ⌝ }
-    ensures { λ r. ⌜ r ≡ packed kind first second ⌝ }
+    requires { ⌜ link < fieldSize ⌝ }
+    requires { ⌜ bit < 2 ⌝ }
+    ensures { λ r. ⌜ r ≡ packed kind first second link bit ⌝ }
 {
-    kind + KIND_SIZE * (first as u64) + KIND_SIZE * FIELD_SIZE * (second as u64)
+    kind
+        + KIND_SIZE * (first as u64)
+        + KIND_SIZE * FIELD_SIZE * (second as u64)
+        + LINK_PLACE * (link as u64)
+        + BIT_PLACE * bit
 }
 
-// The cell of a node.
-fn cell_of(node: Term) -> u64
+// The cell of a node with a link, and with what its bit is to say.
+fn cell_of(node: Term, link: usize, empty: bool) -> u64
     requires { ⌜ Fields node ⌝ }
-    ensures { λ r. ⌜ r ≡ cellOf node ⌝ }
+    requires { ⌜ link < fieldSize ⌝ }
+    ensures { λ r. ⌜ r ≡ cellOf node link empty ⌝ }
 {
-    pack(kind_of(node) as u64, first_of(node), second_of(node))
+    pack(
+        kind_of(node) as u64,
+        first_of(node),
+        second_of(node),
+        link,
+        empty as u64,
+    )
 }
 
 // The node in cell `i`.
@@ -136,15 +153,58 @@ pub fn node_at(cells: &[u64], i: usize) -> Term
     unpack(cells[i])
 }
 
-// Stores a node in cell `top`; the answer is the next top.
+// The link in cell `i`.
+pub fn link_at(cells: &[u64], i: usize) -> usize
+    requires { ⌜ i < length (now cells) ⌝ }
+    ensures { λ r. ⌜ r ≡ linkOf (getD (now (cells .entry)) i 0) ⌝ }
+{
+    (cells[i] / LINK_PLACE % FIELD_SIZE) as usize
+}
+
+// Whether the term in cell `i` matches the empty text: its bit says it.
+pub fn nullable(cells: &[u64], i: usize) -> bool
+    requires { ⌜ Sound (now cells) (i + 1) ⌝ }
+    ensures { λ r. ⌜ r ≡ matchesEmpty (term (now (cells .entry)) i) ⌝ }
+{
+    cells[i] / BIT_PLACE % 2 == 1
+}
+
+// Whether the term of a node does, by the bits of its children.
+fn node_nullable(cells: &[u64], node: Term) -> bool
+    requires { ⌜ Over (now cells) node ⌝ }
+    ensures { λ r. ⌜ r ≡ matchesEmpty (grow node (term (now (cells .entry)))) ⌝ }
+{
+    match node {
+        Term::Nothing => false,
+        Term::Empty => true,
+        Term::Range(_, _) => false,
+        Term::Cat(a, b) => nullable(cells, a) && nullable(cells, b),
+        Term::Alt(a, b) => nullable(cells, a) || nullable(cells, b),
+        Term::Star(_) => true,
+    }
+}
+
+// Stores a node with a link in cell `top`; the answer is the next top.
+pub fn hold(cells: &mut [u64], top: usize, node: Term, link: usize) -> usize
+    requires { ⌜ Sound (now cells) top ⌝ }
+    requires { ⌜ top < length (now cells) ⌝ }
+    requires { ⌜ Below node top ⌝ }
+    requires { ⌜ link < fieldSize ⌝ }
+    ensures { λ r. ⌜ Held (now (cells .entry)) top node link (now (cells .exit)) r ⌝ }
+{
+    let empty = node_nullable(cells, node);
+    cells[top] = cell_of(node, link, empty);
+    top + 1
+}
+
+// Stores a node with no link.
 pub fn push(cells: &mut [u64], top: usize, node: Term) -> usize
     requires { ⌜ Sound (now cells) top ⌝ }
     requires { ⌜ top < length (now cells) ⌝ }
     requires { ⌜ Below node top ⌝ }
     ensures { λ r. ⌜ Pushed (now (cells .entry)) top node (now (cells .exit)) r ⌝ }
 {
-    cells[top] = cell_of(node);
-    top + 1
+    hold(cells, top, node, 0)
 }
 
 // What a node is.
@@ -203,34 +263,6 @@ pub fn is_short(cells: &mut [u64], top: usize, i: usize) -> bool
         end += 1;
     }
     false
-}
-
-// Whether a term matches the empty text.
-pub fn nullable(cells: &[u64], i: usize) -> bool
-    requires { ⌜ Sound (now cells) (i + 1) ⌝ }
-    ensures { λ r. ⌜ r ≡ matchesEmpty (term (now (cells .entry)) i) ⌝ }
-{
-    let node = node_at(cells, i);
-    match node {
-        Term::Nothing => false,
-        Term::Empty => true,
-        Term::Range(_, _) => false,
-        Term::Cat(a, b) => {
-            if nullable(cells, a) {
-                nullable(cells, b)
-            } else {
-                false
-            }
-        }
-        Term::Alt(a, b) => {
-            if nullable(cells, a) {
-                true
-            } else {
-                nullable(cells, b)
-            }
-        }
-        Term::Star(_) => true,
-    }
 }
 
 fn compare_numbers(m: usize, n: usize) -> Order

@@ -115,7 +115,7 @@ pub fn edge_of(cells: &[u64], v: Vector, n: usize, byte: usize) -> usize
 
 // The vector after `byte`: each of the first `n` terms derived above the pool and put into it. The pool of a vector that is Long is given up.
 pub fn derive_vector(
-    index: &mut [usize],
+    index: &mut [u16],
     cells: &mut [u64],
     top: usize,
     v: Vector,

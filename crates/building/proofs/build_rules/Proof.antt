@@ -4,7 +4,7 @@ use Rattle.building.specs.AnswerLaws.{tabled-as, rules-long, rules-first
 use borrow.Author.Needs.{needs}
 use mathlib.Core.Path.{refl}
 use lib.ListN.{replicate}
-use Rattle.pool.specs.Index.{indexCells}
+use Rattle.pool.specs.Index.{heads}
 use Rattle.pool.specs.IndexLaws.{indexed-none}
 use Rattle.steps.specs.CallLaws.{followed}
 use Rattle.building.proofs.build_rules.Statement.{statement}
@@ -14,7 +14,7 @@ slice-aggregate-first-vector : tie.Need-slice-aggregate-first-vector
 slice-aggregate-first-vector c = search needs
 
 first-vector-requires : tie.Need-first-vector-requires
-first-vector-requires c κs = (c .before .before .before .before .before .before .pre .0, indexed-none (replicate indexCells 0) _ refl)
+first-vector-requires c κs = (c .before .before .before .before .before .before .pre .0, indexed-none (replicate heads 0) _ refl)
 
 same-length : tie.Need-same-length
 same-length c = search needs

@@ -5,7 +5,7 @@ use Rattle.start.specs.Start.{First}
 use Rattle.pairs.specs.WholeLaws.{walk-long, walk-first, walk-stops, walk-beside, walk-ends}
 use mathlib.Core.Path.{refl}
 use lib.ListN.{replicate}
-use Rattle.pool.specs.Index.{indexCells}
+use Rattle.pool.specs.Index.{heads}
 use Rattle.pool.specs.IndexLaws.{indexed-none}
 use Rattle.steps.specs.CallLaws.{followed}
 use Rattle.pairs.proofs.walk_from.Statement.{statement}
@@ -22,7 +22,7 @@ slice-aggregate-first-vector : tie.Need-slice-aggregate-first-vector
 slice-aggregate-first-vector c = search needs
 
 first-vector-requires : tie.Need-first-vector-requires
-first-vector-requires c κs = (c .before .before .before .before .before .pre .0, indexed-none (replicate indexCells 0) _ refl)
+first-vector-requires c κs = (c .before .before .before .before .before .pre .0, indexed-none (replicate heads 0) _ refl)
 
 same-length : tie.Need-same-length
 same-length c = search needs

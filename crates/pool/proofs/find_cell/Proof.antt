@@ -26,6 +26,9 @@ shared-slice-read-next c =
     let s = c .before .before .before .before in
     omega (arith, hash-small (s .args .node), c .before .hash-of .ensures, s .pre .0 .long)
 
+cast-next : tie.Need-cast-next Inv-loop μ-loop
+cast-next c = omega (arith, c .shared-slice-known3 .given (c .before .hash-of .result))
+
 loop-holds : tie.Need-loop-holds Inv-loop μ-loop
 loop-holds c =
     let s = c .before .before .before .before in
@@ -47,30 +50,28 @@ returns c =
     chain-found (c .before .before .before .before .loop .inv) (c .before .before .before .loop-test .taken)
     (sym e ∙ node-same _ _ (sym (c .before .same-node .ensures) ∙ c .if1 .taken))
 
-add-next : tie.Need-add-next Inv-loop μ-loop
-add-next c = search needs
-
-mul-next-2 : tie.Need-mul-next-2 Inv-loop μ-loop
-mul-next-2 c = search needs
-
-shared-slice-read-next-2 : tie.Need-shared-slice-read-next-2 Inv-loop μ-loop
-shared-slice-read-next-2 c =
-    let s = c .before .before .before .before .before .before .before .before .before .before in
-    omega (arith, chain-inside (c .before .before .before .before .before .loop .inv), s .pre .0 .long, s .pre .0 .few)
+link-at-requires : tie.Need-link-at-requires Inv-loop μ-loop
+link-at-requires c κs =
+    let loop = c .before .before .before .before in
+    omega (arith, chain-inside (loop .loop .inv), loop .before .before .before .before .before .pre .1 .0)
 
 loop-less : tie.Need-loop-less Inv-loop μ-loop
 loop-less c =
     let s = c .before .before .before .before .before .before .before .before .before .before in
-    chain-falls (s .args .index .now) (s .args .cells .now) (s .args .top) (s .args .node) (s .pre .0)
-    (c .before .before .before .before .before .loop .inv) (c .before .before .before .before .loop-test .taken)
+    omega (
+      arith,
+      c .link-at .ensures,
+      chain-falls (s .args .index .now) (s .args .cells .now) (s .args .top) (s .args .node) (s .pre .0)
+          (c .before .before .before .before .before .loop .inv) (c .before .before .before .before .loop-test .taken),
+    )
 
 loop-again : tie.Need-loop-again Inv-loop μ-loop
 loop-again c =
     let s = c .before .before .before .before .before .before .before .before .before .before in
     let e = c .before .before .before .node-at .ensures in
-    chain-next (s .args .index .now) (s .args .cells .now) (s .args .top) (s .args .node) (s .pre .0)
+    rw (c .link-at .ensures) (chain-next (s .args .index .now) (s .args .cells .now) (s .args .top) (s .args .node) (s .pre .0)
     (c .before .before .before .before .before .loop .inv) (c .before .before .before .before .loop-test .taken)
-    (λ z. clash (c .before .before .same-node .ensures ∙ node-self _ _ (e ∙ z)) (c .before .if1 .left))
+    (λ z. clash (c .before .before .same-node .ensures ∙ node-self _ _ (e ∙ z)) (c .before .if1 .left)))
 
 returns-2 : tie.Need-returns-2 Inv-loop μ-loop
 returns-2 c = chain-end (c .before .loop .inv) (omega arith)
@@ -84,14 +85,13 @@ find-cell-spec =
     hash-of-requires
     mul-next
     shared-slice-read-next
+    cast-next
     loop-holds
     sub-at
     node-at-requires
     same-node-requires
     returns
-    add-next
-    mul-next-2
-    shared-slice-read-next-2
+    link-at-requires
     loop-less
     loop-again
     returns-2)

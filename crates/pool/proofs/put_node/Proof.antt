@@ -1,17 +1,27 @@
--- `pool::put_node` meets its contract: a found node is held already, one that was not found is new and goes to the front of its chain.
--- Assumes nothing.
+-- `pool::put_node` meets its contract: a found node is held already, one that was not found is new.
+-- The head of its chain becomes its link, and it the head. Assumes nothing.
+use Prim.Native.Nat.{_<_}
 use native.Mathlib.Omega.{arith}
+use Rattle.term.specs.Nodes.{Fields}
 use Rattle.term.specs.CellLaws.{below-fields}
+use Rattle.pool.specs.Index.{heads}
+use Rattle.pool.specs.IndexLaws.{hash-small}
 use Rattle.pool.specs.NodeLaws.{put-old, put-new}
 use borrow.Author.Needs.{needs}
 use Rattle.pool.proofs.put_node.Statement.{statement}
 use Rattle.pool.proofs.put_node.Tie as tie
 
+-- a node over the pool's cells fits a cell, and its hash leads to a head
+fits : (s : tie.Start) → Fields (s .args .node)
+fits s = below-fields (s .args .node) (s .args .top) (omega (arith, s .pre .0 .room, s .pre .0 .pooled .sound .small)) (s .pre .1)
+
+inside : (c : tie.After-hash-of) → c .hash-of .result < heads
+inside c = omega (arith, hash-small (c .before .before .before .before .before .before .before .args .node), c .hash-of .ensures)
+
 find-cell-requires : tie.Need-find-cell-requires
 find-cell-requires c κs =
     let s = c .before .before .before .before in
-    let o = s .pre .0 in
-    (o .indexed, (o .pooled .sound .room, below-fields (s .args .node) (s .args .top) (omega (arith, o .room, o .pooled .sound .small)) (s .pre .1)))
+    (s .pre .0 .indexed, (s .pre .0 .pooled .sound .room, fits s))
 
 same-length : tie.Need-same-length
 same-length c = search needs
@@ -26,18 +36,32 @@ returns c =
     put-old (s .args .index .now) (s .args .cells .now) (s .args .top) (s .args .node) (o .pooled) (o .indexed) (s .pre .1)
     (c .before .find-cell .result) (omega (arith, c .before .find-cell .ensures .within)) (c .before .find-cell .ensures)
 
-push-requires : tie.Need-push-requires
-push-requires c κs =
-    let p = c .before .before .before .before .before .before .before .pre in
-    (p .0 .pooled .sound, (omega (arith, p .0 .room), p .1))
+hash-of-requires : tie.Need-hash-of-requires
+hash-of-requires c κs = fits (c .before .before .before .before .before .before)
 
-chain-requires : tie.Need-chain-requires
-chain-requires c κs =
-    let s = c .before .before .before .before .before .before .before .before .before .before .before in
-    let o = s .pre .0 in (
-      below-fields (s .args .node) (s .args .top) (omega (arith, o .room, o .pooled .sound .small)) (s .pre .1),
-      (o .indexed .long, omega (arith, o .inside)),
-    )
+mul-link : tie.Need-mul-link
+mul-link c = omega (arith, inside c)
+
+slice-read-link : tie.Need-slice-read-link
+slice-read-link c = omega (arith, inside (c .before), c .before .before .before .before .before .before .before .before .pre .0 .indexed .long)
+
+cast-link : tie.Need-cast-link
+cast-link c = omega (arith, c .slice-known3 .given (c .before .hash-of .result))
+
+hold-requires : tie.Need-hold-requires
+hold-requires c κs =
+    let p = c .before .before .before .before .before .before .before .before .before .pre in
+    let known = c .before .slice-known3 .given (c .before .before .hash-of .result) in
+    (p .0 .pooled .sound, (omega (arith, p .0 .room), (p .1, omega (arith, known))))
+
+cast-index : tie.Need-cast-index
+cast-index c = search needs
+
+mul-index : tie.Need-mul-index
+mul-index c = omega (arith, inside (c .before .before .before .before .before))
+
+slice-write-index : tie.Need-slice-write-index
+slice-write-index c = omega (arith, inside (c .before .before .before .before .before), c .before .before .before .before .before .before .before .before .before .before .before .before .pre .0 .indexed .long)
 
 same-length-3 : tie.Need-same-length-3
 same-length-3 c = search needs
@@ -47,11 +71,11 @@ same-length-4 c = search needs
 
 returns-2 : tie.Need-returns-2
 returns-2 c =
-    let s = c .before .before .before .before .before .before .before .before .before .before .before .before .before .before in
+    let s = c .before .before .before .before .before .before .before .before .before .before .before .before in
     let o = s .pre .0 in
-    let new = put-new (s .args .index .now) (s .args .cells .now) (s .args .top) (s .args .node) (o .pooled) (o .indexed) (s .pre .1) _ _ _
-    (omega arith) (c .before .before .before .before .before .before .before .before .before .find-cell .ensures) (c .before .before .before .before .before .before .push .ensures) (omega (arith, o .inside)) (omega (arith, o .room)) in
-    rw (c .before .before .chain .ensures) new
+    put-new (s .args .index .now) (s .args .cells .now) (s .args .top) (s .args .node) (o .pooled) (o .indexed) (s .pre .1) _ _ _
+    (omega arith) (c .before .before .before .before .before .before .before .find-cell .ensures)
+    (c .before .before .before .before .before .hash-of .ensures) (c .before .before .hold .ensures) (omega (arith, o .inside))
 
 pub put-node-spec : {M : Type 1} → statement M
 put-node-spec =
@@ -61,8 +85,14 @@ put-node-spec =
     same-length
     same-length-2
     returns
-    push-requires
-    chain-requires
+    hash-of-requires
+    mul-link
+    slice-read-link
+    cast-link
+    hold-requires
+    cast-index
+    mul-index
+    slice-write-index
     same-length-3
     same-length-4
     returns-2)
