@@ -1,12 +1,13 @@
--- Laws for derive, one for each of its calls and returns, over what the node told and what the callees answered.
+-- Laws for derive and with_rest, one for each of their calls and returns, over what the node told and what the callees answered.
 -- Pure laws come first: the limited derivative by its parts, and the cells that a Cat uses.
 use Prim.Native.Nat.{ℕ, _+_, _-_, _*_, _<_, _≤_}
 use native.Mathlib.Omega.{arith}
 use mathlib.Core.Path.{_≡_, refl, sym, ap, _∙_}
 use mathlib.Core.Bool.{Bool, true, false, cond, _&&_, _||_}
 use mathlib.Core.List.{List}
-use lib.Dec.{leb}
+use lib.Dec.{leb, eqb}
 use lib.ListN.{length}
+use borrow.Author.Tests.{ne-eqb}
 use Rattle.number.specs.Branch.{by-cond}
 use Rattle.meaning.specs.Re.{Re, size, isNothing, isEmpty}
 use Rattle.meaning.specs.Normal.{cat, alt}
@@ -22,23 +23,28 @@ use Rattle.term.specs.declared.Term.the-variants.{Nothing, Empty, Range, Cat, A
 use Rattle.term.specs.Cells.{grow, term, Below, Sound}
 use Rattle.term.specs.Area.{pending, GrownFree, Room, Makes}
 use Rattle.term.specs.Nodes.{kindOf, firstOf, Found}
-use Rattle.term.specs.CellLaws.{sound-less, grown-refl, grown-trans, grown-term, makes-free}
-use Rattle.term.specs.ReadLaws.{first-below, first-size, cat-size, alt-size, star-size}
+use Rattle.term.specs.CellLaws.{sound-less, grown-refl, grown-trans, grown-term, makes-old, makes-free, makes-after}
+use Rattle.term.specs.ReadLaws.{cat-size, alt-size, star-size}
 use Rattle.normal.specs.declared.Made.{Made}
 use Rattle.normal.specs.declared.Made.the-variants.{Term as Made·term, Long as Made·long}
 use Rattle.normal.specs.Made.{MadeBy}
 use Rattle.normal.specs.Asked.{catCells, CountedLinks}
+use Rattle.normal.specs.Builds.{CatFits}
 use Rattle.normal.specs.ChainLaws.{cat-few, cat-idle-left}
 use Rattle.normal.specs.AnswerLaws.{Got, long-is, made-term, made-after, long-after}
 use Rattle.choice.specs.Asked.{members, mostMembers, altCells, ShortChoices}
 use Rattle.choice.specs.UniteLaws.{alt-few, alt-idle-left}
-use Rattle.derivative.specs.Derives.{derivRoom, derivCells, Derives, rangeLeft, leafLeft}
+use Rattle.derivative.specs.Derives.{derivRoom, derivCells, Derives, rangeLeft, leafLeft, restOf, restFit, restCells, bothSides, Rested}
 
 -- ---- the limited derivative is short
 
 abbrev Short : Fit → Type 0
 Short Long = Unit
 Short (Fits v) = short v ≡ true
+
+abbrev Shaped : Fit → Type 0
+Shaped Long = Unit
+Shaped (Fits v) = InShape v
 
 fit-is-short : (v : Re) → Short (fit v)
 fit-is-short v = by-cond Short (short v) (λ e. e) (λ _. tt)
@@ -87,50 +93,72 @@ fit-value v w = go (short v)
     go true e = cc
     go false e = absurd (let z : _≡_ {A = ℕ} 0 1 = cc in omega arith)
 
--- ---- the limited derivative by its parts
+-- ---- the limited derivative by its parts: that of the first part, the rest behind it, and where it is a choice the second side's
 
-module _ (c : ℕ) (a b : Re) where
-  cat-long-1 : derivFit c a ≡ Long → derivFit c (Re.Cat a b) ≡ Long
-  unfolding derivFit
-  cat-long-1 e = rw e
+abbrev partsFit : ℕ → ℕ → Re → Re → Fit
+partsFit c kind x y = do
+  v ← derivFit c x
+  w ← restFit kind v y
+  elim (bothSides kind x) [
+    | true ↦ do
+      z ← derivFit c y
+      fit (alt w z)
+    | false ↦ Fits w
+  ]
 
-  alt-long-1 : derivFit c a ≡ Long → derivFit c (Re.Alt a b) ≡ Long
-  unfolding derivFit
-  alt-long-1 e = rw e
-
-  module _ (v : Re) (x : derivFit c a ≡ Fits v) where
-    cat-long-2 : fit (cat v b) ≡ Long → derivFit c (Re.Cat a b) ≡ Long
-    unfolding derivFit
-    cat-long-2 e = rw (x, e)
-
-    module _ (w : Re) (y : fit (cat v b) ≡ Fits w) where
-      cat-fits : nullable a ≡ false → derivFit c (Re.Cat a b) ≡ Fits w
-      unfolding derivFit
-      cat-fits e = rw (x, y, e)
-
-      cat-long-3 : nullable a ≡ true → derivFit c b ≡ Long → derivFit c (Re.Cat a b) ≡ Long
-      unfolding derivFit
-      cat-long-3 e d = rw (x, y, e, d)
-
-      cat-fits-both : nullable a ≡ true → (z : Re) → derivFit c b ≡ Fits z → fit (alt w z) ≡ derivFit c (Re.Cat a b)
-      unfolding derivFit
-      cat-fits-both e z d = rw (x, y, e, d)
-
-    alt-long-2 : derivFit c b ≡ Long → derivFit c (Re.Alt a b) ≡ Long
-    unfolding derivFit
-    alt-long-2 e = rw (x, e)
-
-    alt-fits : (w : Re) → derivFit c b ≡ Fits w → fit (alt v w) ≡ derivFit c (Re.Alt a b)
-    unfolding derivFit
-    alt-fits w e = rw (x, e)
-
-star-long-1 : (c : ℕ) (a : Re) → derivFit c a ≡ Long → derivFit c (Re.Star a) ≡ Long
+star-parts : (c : ℕ) (a : Re) → derivFit c (Re.Star a) ≡ partsFit c 5 a (Re.Star a)
 unfolding derivFit
-star-long-1 c a e = rw e
+star-parts c a = go (derivFit c a)
+  where
+    same : (m : Fit) → m ≡ (m >>= Fits)
+    same Long = refl
+    same (Fits w) = refl
 
-star-fits : (c : ℕ) (a v : Re) → derivFit c a ≡ Fits v → fit (cat v (Re.Star a)) ≡ derivFit c (Re.Star a)
-unfolding derivFit
-star-fits c a v e = rw e
+    go : (m : Fit) → (m >>= λ v. fit (cat v (Re.Star a))) ≡ (m >>= λ v. fit (cat v (Re.Star a)) >>= λ w. Fits w)
+    go Long = refl
+    go (Fits v) = same (fit (cat v (Re.Star a)))
+
+module _ (c kind : ℕ) (x y : Re) where
+  long-1 : derivFit c x ≡ Long → partsFit c kind x y ≡ Long
+  long-1 e = rw e
+
+  module _ (v : Re) (d : derivFit c x ≡ Fits v) where
+    long-2 : restFit kind v y ≡ Long → partsFit c kind x y ≡ Long
+    long-2 e = rw (d, e)
+
+    module _ (w : Re) (e : restFit kind v y ≡ Fits w) where
+      fits-left : bothSides kind x ≡ false → partsFit c kind x y ≡ Fits w
+      fits-left n = rw (d, e, n)
+
+      long-3 : bothSides kind x ≡ true → derivFit c y ≡ Long → partsFit c kind x y ≡ Long
+      long-3 n h = rw (d, e, n, h)
+
+      fits-both : bothSides kind x ≡ true → (z : Re) → derivFit c y ≡ Fits z → fit (alt w z) ≡ partsFit c kind x y
+      fits-both n z h = rw (d, e, n, h)
+
+-- with the rest behind it a derivative is short and in shape, and this uses few cells
+module _ (kind : ℕ) (v y : Re) (short-v : short v ≡ true) where
+  rest-short : (w : Re) → restFit kind v y ≡ Fits w → short w ≡ true
+  rest-short w = fits-short (restFit kind v y) w (by-cond Short (eqb kind 4) (λ _. short-v) (λ _. fit-is-short (cat v y)))
+
+  rest-few : restCells kind v y ≤ mostMembers
+  rest-few = by-cond (λ n. n ≤ mostMembers) (eqb kind 4) (λ _. omega arith) (λ _. omega (arith, cat-few v y, short-spine v short-v))
+
+rest-shape : (kind : ℕ) (v y w : Re) → InShape v → InShape y → restFit kind v y ≡ Fits w → InShape w
+rest-shape kind v y w p q e = rw e at shaped
+  where
+    shaped : Shaped (restFit kind v y)
+    shaped = by-cond Shaped (eqb kind 4) (λ _. p) (λ _. by-cond Shaped (short (cat v y)) (λ _. shape-cat v y p q) (λ _. tt))
+
+-- what with_rest answers: the derivative alone, or with the rest behind it
+module _ {s : List ℕ} {top da b : ℕ} (l : CountedLinks s top da b) where
+  pub rest-none : {kind : ℕ} → kind ≡ 4 → Rested s top kind da b s (Made·term da top)
+  rest-none {kind} e =
+      made-term (restFit kind (term s da) (term s b)) (restCells kind (term s da) (term s b))
+      (makes-old da 0 (term s da) (l .links .sound) (l .links .left) refl) (rw e) (omega arith)
+
+  pub rest-behind : {kind : ℕ} → (kind ≡ 4 → ⊥) → {s′ : List ℕ} {r : Made} → CatFits s top da b s′ r → Rested s top kind da b s′ r
+  rest-behind {kind} n m = rw (ne-eqb kind 4 n) m
 
 -- ---- the cells that the two steps of a Cat use together
 
@@ -192,24 +220,70 @@ leaf-below top c (Cat a b) w h e = absurd (omega arith)
 leaf-below top c (Alt a b) w h e = absurd (omega arith)
 leaf-below top c (Star a) w h e = absurd (omega arith)
 
+-- ---- a node with parts, of any kind: what the derivative asks of its first part and of the rest
+
+pub record Parts (s : List ℕ) (i kind a b : ℕ) : Type 0 where
+  pub first : a < i
+  pub rest : b ≤ i
+  pub first-shape : InShape (term s a)
+  pub rest-shape : InShape (term s b)
+  pub larger : size (term s a) < size (term s i)
+  pub is : (c : ℕ) → derivFit c (term s i) ≡ partsFit c kind (term s a) (term s b)
+  -- where the second side's derivative is a choice
+  pub second : bothSides kind (term s a) ≡ true → (b < i) × (size (term s i) ≡ 1 + size (term s a) + size (term s b))
+  pub steps : bothSides kind (term s a) ≡ true → (v w z : Re) → restFit kind v (term s b) ≡ Fits w → InShape w → InShape z
+      → short v ≡ true → short w ≡ true → short z ≡ true → restCells kind v (term s b) + altCells w z ≤ 2 * mostMembers
+
+parts-of : (s : List ℕ) (i : ℕ) (u : Term) → Found s i u → 2 < kindOf u → InShape (term s i) → Parts s i (kindOf u) (firstOf u) (restOf u i)
+unfolding derivFit
+parts-of s i Nothing f h t = absurd (omega arith)
+parts-of s i Empty f h t = absurd (omega arith)
+parts-of s i (Range lo hi) f h t = absurd (omega arith)
+parts-of s i (Cat a b) f h t =
+    let whole : InShape (Re.Cat (term s a) (term s b)) = rw (f .is) at t in
+    record {
+      first = f .below .0;
+      rest = omega (arith, f .below .1);
+      first-shape = whole .0;
+      rest-shape = whole .1;
+      larger = omega (arith, cat-size s i a b f);
+      is = λ c. ap (derivFit c) (f .is);
+      second = λ _. (f .below .1, cat-size s i a b f);
+      steps = λ _ v w z e k l m n o.
+          two-steps v (term s b) w z (fit-value (cat v (term s b)) w e) k l m n o (whole .2 .right-some) (whole .2 .right-long);
+    }
+parts-of s i (Alt a b) f h t =
+    let whole : InShape (Re.Alt (term s a) (term s b)) = rw (f .is) at t in
+    record {
+      first = f .below .0;
+      rest = omega (arith, f .below .1);
+      first-shape = whole .0;
+      rest-shape = whole .1;
+      larger = omega (arith, alt-size s i a b f);
+      is = λ c. ap (derivFit c) (f .is);
+      second = λ _. (f .below .1, alt-size s i a b f);
+      steps = λ _ v w z e k l m n o. omega (arith, alt-few w z k l, short-members w n, short-members z o);
+    }
+parts-of s i (Star a) f h t =
+    let whole : InShape (Re.Star (term s a)) = rw (f .is) at t in
+    let no : (_≡_ {A = Bool} false true) → ⊥ = λ e. let z : _≡_ {A = ℕ} 0 1 = cc in omega arith in
+    record {
+      first = f .below;
+      rest = omega arith;
+      first-shape = whole .0;
+      rest-shape = t;
+      larger = omega (arith, star-size s i a f);
+      is = λ c. rw (f .is) (star-parts c (term s a));
+      second = λ e. absurd (no e);
+      steps = λ e. absurd (no e);
+    }
+
+-- as the code has read it
+pub parts : {s : List ℕ} {i : ℕ} {u : Term} {kind a b : ℕ} → Found s i u → 2 < kindOf u → InShape (term s i) → kind ≡ kindOf u → a ≡ firstOf u
+    → b ≡ restOf u i → Parts s i kind a b
+parts {s} {i} {u} f h t x y z = rw (x, y, z) (parts-of s i u f h t)
+
 -- ---- a part of a held term
-
-first-shape : (s : List ℕ) (i : ℕ) (u : Term) → Found s i u → 2 < kindOf u → (a : ℕ) → a ≡ firstOf u → InShape (term s i) → InShape (term s a)
-first-shape s i Nothing f h a e t = absurd (omega arith)
-first-shape s i Empty f h a e t = absurd (omega arith)
-first-shape s i (Range lo hi) f h a e t = absurd (omega arith)
-first-shape s i (Cat l r) f h a e t = let w : InShape (Re.Cat (term s l) (term s r)) = rw (f .is) at t in rw e (w .0)
-first-shape s i (Alt l r) f h a e t = let w : InShape (Re.Alt (term s l) (term s r)) = rw (f .is) at t in rw e (w .0)
-first-shape s i (Star l) f h a e t = let w : InShape (Re.Star (term s l)) = rw (f .is) at t in rw e (w .0)
-
-first-is-long : (c : ℕ) (s : List ℕ) (i : ℕ) (u : Term) → Found s i u → 2 < kindOf u → (a : ℕ) → a ≡ firstOf u → derivFit c (term s a) ≡ Long
-    → derivFit c (term s i) ≡ Long
-first-is-long c s i Nothing f h a e x = absurd (omega arith)
-first-is-long c s i Empty f h a e x = absurd (omega arith)
-first-is-long c s i (Range lo hi) f h a e x = absurd (omega arith)
-first-is-long c s i (Cat l r) f h a e x = ap (derivFit c) (f .is) ∙ cat-long-1 c (term s l) (term s r) (rw e at x)
-first-is-long c s i (Alt l r) f h a e x = ap (derivFit c) (f .is) ∙ alt-long-1 c (term s l) (term s r) (rw e at x)
-first-is-long c s i (Star l) f h a e x = ap (derivFit c) (f .is) ∙ star-long-1 c (term s l) (rw e at x)
 
 -- cells as they are counted
 room-of : (r : Re) (n : ℕ) → size r ≡ n → derivRoom r ≡ (mostMembers + 1) * n + pending
@@ -311,265 +385,145 @@ module _ {s : List ℕ} {top i : ℕ} (d : Derives s top i) where
           made-term (derivFit c (term s i)) (derivCells (term s i)) (makes-free pending m)
           (sym (leaf-fits s c u w k e ∙ sym (ap (derivFit c) (f .is)))) (omega (arith, cells-some (term s i)))
 
-    -- the first part, or the only one
-    module _ (k : 2 < kindOf u) {a : ℕ} (e : a ≡ firstOf u) where
-      first-fewer : derivCells (term s a) + mostMembers + 1 ≤ derivCells (term s i)
-      first-fewer = part-cells (term s i) (term s a) (first-size s i u f k a e)
+  -- a term with parts
+  module _ {kind a b : ℕ} (p : Parts s i kind a b) (c : ℕ) where
+    fewer : derivCells (term s a) + mostMembers + 1 ≤ derivCells (term s i)
+    fewer = part-cells (term s i) (term s a) (p .larger)
 
-      pub first-asks : Derives s top a
-      first-asks =
-          later 0 a (grown-refl (d .sound)) (omega arith) (omega (arith, first-below f k)) (first-shape s i u f k a e (d .in-shape))
-          (omega (arith, first-size s i u f k a e)) (omega (arith, first-fewer))
+    rest-held : b < top
+    rest-held = omega (arith, p .rest, d .held)
 
-      pub first-long : (c : ℕ) {s₁ : List ℕ} {r : Made} → MadeBy s top s₁ r (derivFit c (term s a)) (derivCells (term s a)) → r ≡ Made·long
-          → MadeBy s top s₁ Made·long (derivFit c (term s i)) (derivCells (term s i))
-      first-long c m x =
-          long-after 0 (derivCells (term s i)) (derivFit c (term s i)) (grown-refl (d .sound)) (omega arith) m x
-          (first-is-long c s i u f k a e (long-is m x)) (omega (arith, first-fewer))
+    pub first-asks : Derives s top a
+    first-asks =
+        later 0 a (grown-refl (d .sound)) (omega arith) (p .first) (p .first-shape) (omega (arith, p .larger)) (omega (arith, fewer))
 
-  -- ---- Cat
+    pub first-long : {s₁ : List ℕ} {r : Made} → MadeBy s top s₁ r (derivFit c (term s a)) (derivCells (term s a)) → r ≡ Made·long
+        → MadeBy s top s₁ Made·long (derivFit c (term s i)) (derivCells (term s i))
+    first-long m x =
+        long-after 0 (derivCells (term s i)) (derivFit c (term s i)) (grown-refl (d .sound)) (omega arith) m x
+        (p .is c ∙ long-1 c kind (term s a) (term s b) (long-is m x)) (omega (arith, fewer))
 
-  module _ (c : ℕ) {a b : ℕ} (f : Found s i (Cat a b)) where
-    cat-shape : InShape (Re.Cat (term s a) (term s b))
-    cat-shape = rw (f .is) at (d .in-shape)
-
-    cat-is : derivFit c (term s i) ≡ derivFit c (Re.Cat (term s a) (term s b))
-    cat-is = ap (derivFit c) (f .is)
-
-    cat-cells : derivCells (term s i) ≡ derivCells (term s a) + derivCells (term s b) + 2 * mostMembers + 1
-    cat-cells = two-cells (term s i) (term s a) (term s b) (cat-size s i a b f)
-
-    -- the first side's derivative is there
+    -- the first part's derivative is there
     module _ {s₁ : List ℕ} {da first : ℕ} (g : Got s top s₁ da first (derivFit c (term s a)) (derivCells (term s a))) where
       da-short : short (g .value) ≡ true
       da-short = derived-short c (term s a) (g .value) (g .fits)
 
       da-shape : InShape (g .value)
-      da-shape = derived-shape c (term s a) (g .value) (cat-shape .0) (g .fits)
+      da-shape = derived-shape c (term s a) (g .value) (p .first-shape) (g .fits)
 
-      b-stays : term s₁ b ≡ term s b
-      b-stays = grown-term b (g .makes .grown) (d .sound) (omega (arith, f .below .1, d .held))
+      rest-stays : term s₁ b ≡ term s b
+      rest-stays = grown-term b (g .makes .grown) (d .sound) rest-held
 
-      pub cat-middle : CountedLinks s₁ first da b
-      cat-middle = links-after c a g (omega (arith, cat-cells)) (omega (arith, f .below .1, d .held))
+      pub rest-asks : CountedLinks s₁ first da b
+      rest-asks = links-after c a g fewer rest-held
 
-      middle-is : fit (cat (term s₁ da) (term s₁ b)) ≡ fit (cat (g .value) (term s b))
-      middle-is = cc (g .makes .is, b-stays)
+      left-same : restFit kind (term s₁ da) (term s₁ b) ≡ restFit kind (g .value) (term s b)
+      left-same = cc (g .makes .is, rest-stays)
 
-      middle-cells : catCells (term s₁ da) (term s₁ b) ≡ catCells (g .value) (term s b)
-      middle-cells = cc (g .makes .is, b-stays)
+      left-cells : restCells kind (term s₁ da) (term s₁ b) ≡ restCells kind (g .value) (term s b)
+      left-cells = cc (g .makes .is, rest-stays)
 
-      middle-few : catCells (g .value) (term s b) ≤ mostMembers
-      middle-few = omega (arith, cat-few (g .value) (term s b), short-spine (g .value) da-short)
+      left-few : restCells kind (g .value) (term s b) ≤ mostMembers
+      left-few = rest-few kind (g .value) (term s b) da-short
 
-      pub cat-middle-long : {s₂ : List ℕ} {r : Made}
-          → MadeBy s₁ first s₂ r (fit (cat (term s₁ da) (term s₁ b))) (catCells (term s₁ da) (term s₁ b)) → r ≡ Made·long
+      pub rest-long : {s₂ : List ℕ} {r : Made} → Rested s₁ first kind da b s₂ r → r ≡ Made·long
           → MadeBy s top s₂ Made·long (derivFit c (term s i)) (derivCells (term s i))
-      cat-middle-long m e =
+      rest-long m e =
           long-after (derivCells (term s a)) (derivCells (term s i)) (derivFit c (term s i)) (g .makes .grown) (g .makes .few) m e
-          (cat-is ∙ cat-long-2 c (term s a) (term s b) (g .value) (g .fits) (sym middle-is ∙ long-is m e))
-          (omega (arith, middle-cells, middle-few, cat-cells))
+          (p .is c ∙ long-2 c kind (term s a) (term s b) (g .value) (g .fits) (sym left-same ∙ long-is m e))
+          (omega (arith, left-cells, left-few, fewer))
 
-      -- and so is the Cat
+      -- and the rest behind it
       module _ {s₂ : List ℕ} {left second : ℕ}
-          (h : Got s₁ first s₂ left second (fit (cat (term s₁ da) (term s₁ b))) (catCells (term s₁ da) (term s₁ b))) where
-        left-fits : fit (cat (g .value) (term s b)) ≡ Fits (h .value)
-        left-fits = sym middle-is ∙ h .fits
-
-        left-is : h .value ≡ cat (g .value) (term s b)
-        left-is = fit-value (cat (g .value) (term s b)) (h .value) left-fits
+          (h : Got s₁ first s₂ left second (restFit kind (term s₁ da) (term s₁ b)) (restCells kind (term s₁ da) (term s₁ b))) where
+        left-fits : restFit kind (g .value) (term s b) ≡ Fits (h .value)
+        left-fits = sym left-same ∙ h .fits
 
         left-short : short (h .value) ≡ true
-        left-short = fits-short (fit (cat (g .value) (term s b))) (h .value) (fit-is-short (cat (g .value) (term s b))) left-fits
+        left-short = rest-short kind (g .value) (term s b) da-short (h .value) left-fits
 
         left-shape : InShape (h .value)
-        left-shape = rw left-is (shape-cat (g .value) (term s b) da-shape (cat-shape .1))
+        left-shape = rest-shape kind (g .value) (term s b) (h .value) da-shape (p .rest-shape) left-fits
 
         grown-2 : GrownFree pending s top s₂ second
         grown-2 = grown-trans (g .makes .grown) (h .makes .grown)
 
-        few-2 : second ≤ top + (derivCells (term s a) + catCells (g .value) (term s b))
-        few-2 = omega (arith, g .makes .few, h .makes .few, middle-cells)
+        few-2 : second ≤ top + (derivCells (term s a) + restCells kind (g .value) (term s b))
+        few-2 = omega (arith, g .makes .few, h .makes .few, left-cells)
 
-        pub null-asks : Sound s₂ (a + 1)
-        null-asks = sound-less (a + 1) (grown-2 .sound) (omega (arith, f .below .0, d .held, grown-2 .up))
+        pub both-asks : Sound s₂ (a + 1)
+        both-asks = sound-less (a + 1) (grown-2 .sound) (omega (arith, p .first, d .held, grown-2 .up))
 
-        pub null-told : {p q : Bool} → p ≡ nullable (term s₂ a) → p ≡ q → nullable (term s a) ≡ q
-        null-told e t =
-            sym (ap nullable (grown-term a grown-2 (d .sound) (omega (arith, f .below .0, d .held)))) ∙ sym e ∙ t
+        pub both-told : {q r : Bool} → q ≡ bothSides kind (term s₂ a) → q ≡ r → bothSides kind (term s a) ≡ r
+        both-told e t = sym (ap (bothSides kind) (grown-term a grown-2 (d .sound) (omega (arith, p .first, d .held)))) ∙ sym e ∙ t
 
-        pub cat-alone : nullable (term s a) ≡ false → MadeBy s top s₂ (Made·term left second) (derivFit c (term s i)) (derivCells (term s i))
-        cat-alone e =
-            made-after (derivCells (term s a)) (derivCells (term s i)) (derivFit c (term s i)) (g .makes .grown) (g .makes .few)
-            (made-term (fit (cat (term s₁ da) (term s₁ b))) (catCells (term s₁ da) (term s₁ b)) (h .makes) (h .fits) (omega arith))
-            (h .fits ∙ sym (cat-is ∙ cat-fits c (term s a) (term s b) (g .value) (g .fits) (h .value) left-fits e))
-            (omega (arith, middle-cells, middle-few, cat-cells))
+        pub left-alone : bothSides kind (term s a) ≡ false
+            → MadeBy s top s₂ (Made·term left second) (derivFit c (term s i)) (derivCells (term s i))
+        left-alone n =
+            made-term (derivFit c (term s i)) (derivCells (term s i)) (makes-after (derivCells (term s a)) (g .makes .grown) (g .makes .few) (h .makes))
+            (p .is c ∙ fits-left c kind (term s a) (term s b) (g .value) (g .fits) (h .value) left-fits n)
+            (omega (arith, left-cells, left-few, fewer))
 
-        b-stays-2 : term s₂ b ≡ term s b
-        b-stays-2 = grown-term b grown-2 (d .sound) (omega (arith, f .below .1, d .held))
+        -- the second side's derivative is a choice too
+        module _ (n : bothSides kind (term s a) ≡ true) where
+          both-cells : derivCells (term s i) ≡ derivCells (term s a) + derivCells (term s b) + 2 * mostMembers + 1
+          both-cells = two-cells (term s i) (term s a) (term s b) (p .second n .1)
 
-        pub cat-right : Derives s₂ second b
-        cat-right =
-            later (derivCells (term s a) + catCells (g .value) (term s b)) b grown-2 few-2 (f .below .1) (cat-shape .1)
-            (omega (arith, cat-size s i a b f))
-            (omega (arith, middle-few, cat-cells))
+          pub second-asks : Derives s₂ second b
+          second-asks =
+              later (derivCells (term s a) + restCells kind (g .value) (term s b)) b grown-2 few-2 (p .second n .0) (p .rest-shape)
+              (omega (arith, p .second n .1)) (omega (arith, left-few, both-cells))
 
-        pub cat-right-long : nullable (term s a) ≡ true → {s₃ : List ℕ} {r : Made}
-            → MadeBy s₂ second s₃ r (derivFit c (term s₂ b)) (derivCells (term s₂ b)) → r ≡ Made·long
-            → MadeBy s top s₃ Made·long (derivFit c (term s i)) (derivCells (term s i))
-        cat-right-long t m e =
-            long-after (derivCells (term s a) + catCells (g .value) (term s b)) (derivCells (term s i)) (derivFit c (term s i)) grown-2 few-2 m e
-            (cat-is ∙ cat-long-3 c (term s a) (term s b) (g .value) (g .fits) (h .value) left-fits t
-            (sym (ap (derivFit c) b-stays-2) ∙ long-is m e))
-            (omega (arith, middle-few, ap derivCells b-stays-2, cat-cells))
+          rest-stays-2 : term s₂ b ≡ term s b
+          rest-stays-2 = grown-term b grown-2 (d .sound) rest-held
 
-        -- and the second side's derivative
-        module _ {s₃ : List ℕ} {db third : ℕ} (k : Got s₂ second s₃ db third (derivFit c (term s₂ b)) (derivCells (term s₂ b))) where
-          db-fits : derivFit c (term s b) ≡ Fits (k .value)
-          db-fits = sym (ap (derivFit c) b-stays-2) ∙ k .fits
+          pub second-long : {s₃ : List ℕ} {r : Made} → MadeBy s₂ second s₃ r (derivFit c (term s₂ b)) (derivCells (term s₂ b)) → r ≡ Made·long
+              → MadeBy s top s₃ Made·long (derivFit c (term s i)) (derivCells (term s i))
+          second-long m e =
+              let used = derivCells (term s a) + restCells kind (g .value) (term s b) in
+              long-after used (derivCells (term s i)) (derivFit c (term s i)) grown-2 few-2 m e
+              (p .is c ∙ long-3 c kind (term s a) (term s b) (g .value) (g .fits) (h .value) left-fits n
+              (sym (ap (derivFit c) rest-stays-2) ∙ long-is m e))
+              (omega (arith, left-few, ap derivCells rest-stays-2, both-cells))
 
-          db-short : short (k .value) ≡ true
-          db-short = derived-short c (term s b) (k .value) db-fits
+          module _ {s₃ : List ℕ} {db third : ℕ} (k : Got s₂ second s₃ db third (derivFit c (term s₂ b)) (derivCells (term s₂ b))) where
+            db-fits : derivFit c (term s b) ≡ Fits (k .value)
+            db-fits = sym (ap (derivFit c) rest-stays-2) ∙ k .fits
 
-          db-shape : InShape (k .value)
-          db-shape = derived-shape c (term s b) (k .value) (cat-shape .1) db-fits
+            db-short : short (k .value) ≡ true
+            db-short = derived-short c (term s b) (k .value) db-fits
 
-          left-stays : term s₃ left ≡ h .value
-          left-stays = grown-term left (k .makes .grown) (h .makes .grown .sound) (h .makes .within) ∙ h .makes .is
+            db-shape : InShape (k .value)
+            db-shape = derived-shape c (term s b) (k .value) (p .rest-shape) db-fits
 
-          few-3 : third ≤ top + (derivCells (term s a) + catCells (g .value) (term s b) + derivCells (term s b))
-          few-3 = omega (arith, few-2, k .makes .few, ap derivCells b-stays-2)
+            left-stays : term s₃ left ≡ h .value
+            left-stays = grown-term left (k .makes .grown) (h .makes .grown .sound) (h .makes .within) ∙ h .makes .is
 
-          pub cat-last : ShortChoices s₃ third left db
-          cat-last =
-              short-choices (h .value) (k .value) (k .makes .grown .sound) (omega (arith, h .makes .within, k .makes .grown .up)) (k .makes .within)
-              left-stays (k .makes .is) left-shape db-shape left-short db-short
-              (omega (arith, few-3, middle-few, k .makes .grown .same-length, grown-2 .same-length, d .room, room-cells (term s i), cat-cells))
+            few-3 : third ≤ top + (derivCells (term s a) + restCells kind (g .value) (term s b) + derivCells (term s b))
+            few-3 = omega (arith, few-2, k .makes .few, ap derivCells rest-stays-2)
 
-          last-cells : altCells (term s₃ left) (term s₃ db) ≡ altCells (h .value) (k .value)
-          last-cells = cc (left-stays, k .makes .is)
+            pub choice-asks : ShortChoices s₃ third left db
+            choice-asks =
+                short-choices (h .value) (k .value) (k .makes .grown .sound) (omega (arith, h .makes .within, k .makes .grown .up))
+                (k .makes .within) left-stays (k .makes .is) left-shape db-shape left-short db-short
+                (omega (arith, few-3, left-few, k .makes .grown .same-length, grown-2 .same-length, d .room, room-cells (term s i), both-cells))
 
-          last-is : fit (alt (term s₃ left) (term s₃ db)) ≡ fit (alt (h .value) (k .value))
-          last-is = cc (left-stays, k .makes .is)
+            last-cells : altCells (term s₃ left) (term s₃ db) ≡ altCells (h .value) (k .value)
+            last-cells = cc (left-stays, k .makes .is)
 
-          pub cat-both : nullable (term s a) ≡ true → {s₄ : List ℕ} {r : Made}
-              → MadeBy s₃ third s₄ r (fit (alt (term s₃ left) (term s₃ db))) (altCells (term s₃ left) (term s₃ db))
-              → MadeBy s top s₄ r (derivFit c (term s i)) (derivCells (term s i))
-          cat-both t m =
-              made-after (derivCells (term s a) + catCells (g .value) (term s b) + derivCells (term s b)) (derivCells (term s i)) (derivFit c (term s i))
-              (grown-trans grown-2 (k .makes .grown)) few-3 m
-              (last-is ∙ cat-fits-both c (term s a) (term s b) (g .value) (g .fits) (h .value) left-fits t (k .value) db-fits ∙ sym cat-is)
-              (omega (
-                arith,
-                last-cells,
-                two-steps (g .value) (term s b) (h .value) (k .value) left-is left-shape db-shape da-short left-short db-short
-                    (cat-shape .2 .right-some) (cat-shape .2 .right-long),
-                cat-cells,
-              ))
+            last-same : fit (alt (term s₃ left) (term s₃ db)) ≡ fit (alt (h .value) (k .value))
+            last-same = cc (left-stays, k .makes .is)
 
-  -- ---- Alt
-
-  module _ (c : ℕ) {a b : ℕ} (f : Found s i (Alt a b)) where
-    alt-shape : InShape (Re.Alt (term s a) (term s b))
-    alt-shape = rw (f .is) at (d .in-shape)
-
-    alt-is : derivFit c (term s i) ≡ derivFit c (Re.Alt (term s a) (term s b))
-    alt-is = ap (derivFit c) (f .is)
-
-    alt-cells : derivCells (term s i) ≡ derivCells (term s a) + derivCells (term s b) + 2 * mostMembers + 1
-    alt-cells = two-cells (term s i) (term s a) (term s b) (alt-size s i a b f)
-
-    module _ {s₁ : List ℕ} {da first : ℕ} (g : Got s top s₁ da first (derivFit c (term s a)) (derivCells (term s a))) where
-      b-kept : term s₁ b ≡ term s b
-      b-kept = grown-term b (g .makes .grown) (d .sound) (omega (arith, f .below .1, d .held))
-
-      pub alt-right : Derives s₁ first b
-      alt-right =
-          later (derivCells (term s a)) b (g .makes .grown) (g .makes .few) (f .below .1) (alt-shape .1) (omega (arith, alt-size s i a b f))
-          (omega (arith, alt-cells))
-
-      pub alt-right-long : {s₂ : List ℕ} {r : Made} → MadeBy s₁ first s₂ r (derivFit c (term s₁ b)) (derivCells (term s₁ b)) → r ≡ Made·long
-          → MadeBy s top s₂ Made·long (derivFit c (term s i)) (derivCells (term s i))
-      alt-right-long m e =
-          long-after (derivCells (term s a)) (derivCells (term s i)) (derivFit c (term s i)) (g .makes .grown) (g .makes .few) m e
-          (alt-is ∙ alt-long-2 c (term s a) (term s b) (g .value) (g .fits) (sym (ap (derivFit c) b-kept) ∙ long-is m e))
-          (omega (arith, ap derivCells b-kept, alt-cells))
-
-      module _ {s₂ : List ℕ} {db second : ℕ} (h : Got s₁ first s₂ db second (derivFit c (term s₁ b)) (derivCells (term s₁ b))) where
-        right-fits : derivFit c (term s b) ≡ Fits (h .value)
-        right-fits = sym (ap (derivFit c) b-kept) ∙ h .fits
-
-        one-short : short (g .value) ≡ true
-        one-short = derived-short c (term s a) (g .value) (g .fits)
-
-        other-short : short (h .value) ≡ true
-        other-short = derived-short c (term s b) (h .value) right-fits
-
-        one-shape : InShape (g .value)
-        one-shape = derived-shape c (term s a) (g .value) (alt-shape .0) (g .fits)
-
-        other-shape : InShape (h .value)
-        other-shape = derived-shape c (term s b) (h .value) (alt-shape .1) right-fits
-
-        da-stays : term s₂ da ≡ g .value
-        da-stays = grown-term da (h .makes .grown) (g .makes .grown .sound) (g .makes .within) ∙ g .makes .is
-
-        few-both : second ≤ top + (derivCells (term s a) + derivCells (term s b))
-        few-both = omega (arith, g .makes .few, h .makes .few, ap derivCells b-kept)
-
-        pub alt-last : ShortChoices s₂ second da db
-        alt-last =
-            short-choices (g .value) (h .value) (h .makes .grown .sound) (omega (arith, g .makes .within, h .makes .grown .up)) (h .makes .within)
-            da-stays (h .makes .is) one-shape other-shape one-short other-short
-            (omega (arith, few-both, h .makes .grown .same-length, g .makes .grown .same-length, d .room, room-cells (term s i), alt-cells))
-
-        both-cells : altCells (term s₂ da) (term s₂ db) ≡ altCells (g .value) (h .value)
-        both-cells = cc (da-stays, h .makes .is)
-
-        both-is : fit (alt (term s₂ da) (term s₂ db)) ≡ fit (alt (g .value) (h .value))
-        both-is = cc (da-stays, h .makes .is)
-
-        pub alt-up : {s₃ : List ℕ} {r : Made}
-            → MadeBy s₂ second s₃ r (fit (alt (term s₂ da) (term s₂ db))) (altCells (term s₂ da) (term s₂ db))
-            → MadeBy s top s₃ r (derivFit c (term s i)) (derivCells (term s i))
-        alt-up m =
-            made-after (derivCells (term s a) + derivCells (term s b)) (derivCells (term s i)) (derivFit c (term s i))
-            (grown-trans (g .makes .grown) (h .makes .grown)) few-both m
-            (both-is ∙ alt-fits c (term s a) (term s b) (g .value) (g .fits) (h .value) right-fits ∙ sym alt-is)
-            (omega (
-              arith,
-              both-cells,
-              alt-few (g .value) (h .value) one-shape other-shape,
-              short-members (g .value) one-short,
-              short-members (h .value) other-short,
-              alt-cells,
-            ))
-
-  -- ---- Star
-
-  module _ (c : ℕ) {a : ℕ} (f : Found s i (Star a)) where
-    star-is : derivFit c (term s i) ≡ derivFit c (Re.Star (term s a))
-    star-is = ap (derivFit c) (f .is)
-
-    star-cells : derivCells (term s a) + mostMembers + 1 ≤ derivCells (term s i)
-    star-cells = part-cells (term s i) (term s a) (omega (arith, star-size s i a f))
-
-    module _ {s₁ : List ℕ} {da first : ℕ} (g : Got s top s₁ da first (derivFit c (term s a)) (derivCells (term s a))) where
-      part-is-short : short (g .value) ≡ true
-      part-is-short = derived-short c (term s a) (g .value) (g .fits)
-
-      pub star-middle : CountedLinks s₁ first da i
-      star-middle = links-after c a g star-cells (d .held)
-
-      star-stays : term s₁ i ≡ Re.Star (term s a)
-      star-stays = grown-term i (g .makes .grown) (d .sound) (d .held) ∙ f .is
-
-      pub star-up : {s₂ : List ℕ} {r : Made}
-          → MadeBy s₁ first s₂ r (fit (cat (term s₁ da) (term s₁ i))) (catCells (term s₁ da) (term s₁ i))
-          → MadeBy s top s₂ r (derivFit c (term s i)) (derivCells (term s i))
-      star-up m =
-          let is : fit (cat (term s₁ da) (term s₁ i)) ≡ fit (cat (g .value) (Re.Star (term s a))) = cc (g .makes .is, star-stays) in
-          let cells : catCells (term s₁ da) (term s₁ i) ≡ catCells (g .value) (Re.Star (term s a)) = cc (g .makes .is, star-stays) in
-          made-after (derivCells (term s a)) (derivCells (term s i)) (derivFit c (term s i)) (g .makes .grown) (g .makes .few) m
-          (is ∙ star-fits c (term s a) (g .value) (g .fits) ∙ sym star-is)
-          (omega (arith, cat-few (g .value) (Re.Star (term s a)), short-spine (g .value) part-is-short, star-cells))
+            pub choice-up : {s₄ : List ℕ} {r : Made}
+                → MadeBy s₃ third s₄ r (fit (alt (term s₃ left) (term s₃ db))) (altCells (term s₃ left) (term s₃ db))
+                → MadeBy s top s₄ r (derivFit c (term s i)) (derivCells (term s i))
+            choice-up m =
+                let used = derivCells (term s a) + restCells kind (g .value) (term s b) + derivCells (term s b) in
+                made-after used (derivCells (term s i)) (derivFit c (term s i)) (grown-trans grown-2 (k .makes .grown)) few-3 m
+                (last-same ∙ fits-both c kind (term s a) (term s b) (g .value) (g .fits) (h .value) left-fits n (k .value) db-fits ∙ sym (p .is c))
+                (omega (
+                  arith,
+                  last-cells,
+                  p .steps n (g .value) (h .value) (k .value) left-fits left-shape db-shape da-short left-short db-short,
+                  both-cells,
+                ))

@@ -2,11 +2,14 @@
 -- A derivative uses at most one cell more than mostMembers a node of its term, and above these what counting uses.
 use Prim.Native.Nat.{ℕ, _+_, _-_, _*_, _<_}
 use mathlib.Core.Path.{_≡_}
-use mathlib.Core.Bool.{true, cond, _&&_}
+use mathlib.Core.Bool.{Bool, true, cond, _&&_}
 use mathlib.Core.List.{List}
-use lib.Dec.{leb}
+use lib.Dec.{leb, eqb}
 use Rattle.meaning.specs.Re.{Re, size}
-use Rattle.meaning.specs.Limited.{short, derivFit}
+use Rattle.meaning.specs.Normal.{cat}
+use Rattle.meaning.specs.Derive.{nullable}
+use Rattle.meaning.specs.Limited.{Fit, short, fit, derivFit}
+use Rattle.meaning.specs.Limited.Fit.{Fits}
 use Rattle.meaning.specs.Shape.{InShape}
 use Rattle.term.specs.declared.Term.{Term}
 use Rattle.term.specs.declared.Term.the-variants.{Nothing, Empty, Range, Cat, Alt, Star}
@@ -14,6 +17,7 @@ use Rattle.term.specs.Cells.{term, Sound}
 use Rattle.term.specs.Area.{pending, Room}
 use Rattle.normal.specs.declared.Made.{Made}
 use Rattle.normal.specs.Made.{MadeBy}
+use Rattle.normal.specs.Asked.{catCells}
 use Rattle.choice.specs.Asked.{mostMembers}
 
 -- the cells that it asks for, with those for counting, and the cells that it uses
@@ -43,6 +47,30 @@ leafLeft (Range lo hi) byte = rangeLeft lo hi byte
 leafLeft (Cat a b) byte = Nothing
 leafLeft (Alt a b) byte = Nothing
 leafLeft (Star a) byte = Nothing
+
+-- what stands behind a node's first part: the second side, or the Star itself
+abbrev pub restOf : Term → ℕ → ℕ
+restOf Nothing i = 0
+restOf Empty i = 0
+restOf (Range lo hi) i = hi
+restOf (Cat a b) i = b
+restOf (Alt a b) i = b
+restOf (Star a) i = i
+
+-- by the node's kind: its first part's derivative v with the rest y behind it, which in an Alt stands alone; and the cells that this uses
+abbrev pub restFit : ℕ → Re → Re → Fit
+restFit kind v y = cond (eqb kind 4) (Fits v) (fit (cat v y))
+
+abbrev pub restCells : ℕ → Re → Re → ℕ
+restCells kind v y = cond (eqb kind 4) 0 (catCells v y)
+
+-- whether the second side's derivative is a choice too: in an Alt, and in a Cat whose first part x matches the empty text
+abbrev pub bothSides : ℕ → Re → Bool
+bothSides kind x = cond (eqb kind 3) (nullable x) (eqb kind 4)
+
+-- what with_rest leaves, and what derive does
+abbrev pub Rested : List ℕ → ℕ → ℕ → ℕ → ℕ → List ℕ → Made → Type 0
+Rested s top kind da rest s′ r = MadeBy s top s′ r (restFit kind (term s da) (term s rest)) (restCells kind (term s da) (term s rest))
 
 abbrev pub Derived : List ℕ → ℕ → ℕ → ℕ → List ℕ → Made → Type 0
 Derived s top i byte s′ r = MadeBy s top s′ r (derivFit byte (term s i)) (derivCells (term s i))

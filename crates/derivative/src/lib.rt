@@ -5,7 +5,8 @@ ghost use Prim.Native.Nat.{_+_, _≤_, min};
 ghost use Rattle.number.specs.Limits.{lastByte};
 ghost use Rattle.meaning.specs.Edges.{nextEdge};
 ghost use Rattle.term.specs.Cells.{term, Sound};
-ghost use Rattle.derivative.specs.Derives.{Derives, rangeLeft, leafLeft, Derived};
+ghost use Rattle.normal.specs.Asked.{CountedLinks};
+ghost use Rattle.derivative.specs.Derives.{Derives, rangeLeft, leafLeft, restOf, bothSides, Rested, Derived};
 use choice::alt_short;
 use normal::Made;
 use normal::cat_fit;
@@ -13,13 +14,11 @@ use normal::store;
 use number::limits::BYTES;
 use term::ALT;
 use term::CAT;
-use term::STAR;
 use term::Term;
 use term::first_of;
 use term::kind_of;
 use term::node_at;
 use term::nullable;
-use term::second_of;
 
 // What a range leaves to match after a byte.
 fn read_range(lo: usize, hi: usize, byte: usize) -> Term
@@ -48,7 +47,45 @@ fn leaf_left(node: Term, byte: usize) -> Term
     }
 }
 
-// The derivative of a term by a byte. That of the second side of a Cat is worked out only where the first matches the empty text.
+// What stands behind a node's first part: the second side, or the Star itself.
+fn rest_of(node: Term, i: usize) -> usize
+    ensures { λ r. ⌜ r ≡ restOf node i ⌝ }
+{
+    match node {
+        Term::Nothing => 0,
+        Term::Empty => 0,
+        Term::Range(_, hi) => hi,
+        Term::Cat(_, b) => b,
+        Term::Alt(_, b) => b,
+        Term::Star(_) => i,
+    }
+}
+
+// The first part's derivative with the rest behind it; in an Alt it stands alone.
+fn with_rest(cells: &mut [u64], top: usize, kind: usize, da: usize, rest: usize) -> Made
+    requires { ⌜ CountedLinks (now cells) top da rest ⌝ }
+    ensures { λ r. ⌜ Rested (now (cells .entry)) top kind da rest (now (cells .exit)) r ⌝ }
+{
+    if kind == ALT {
+        return Made::Term(da, top);
+    }
+    cat_fit(cells, top, da, rest)
+}
+
+// Whether the second side's derivative is a choice too: in a Cat only where the first side matches the empty text.
+fn both_sides(cells: &[u64], kind: usize, a: usize) -> bool
+    requires { ⌜ Sound (now cells) (a + 1) ⌝ }
+    ensures { λ r. ⌜ r ≡ bothSides kind (term (now (cells .entry)) a) ⌝ }
+{
+    if kind == CAT {
+        return nullable(cells, a);
+    }
+    kind == ALT
+}
+
+// The derivative of a term by a byte. That of the second side is worked out only where it is a choice.
+// It calls itself, so its frame is there once for each level of the term, and each call that answers a Made keeps a place of its own
+// in the frame. So Cat, Alt and Star share the same few calls.
 pub fn derive(cells: &mut [u64], top: usize, i: usize, byte: usize) -> Made
     requires { ⌜ Derives (now cells) top i ⌝ }
     ensures { λ r. ⌜ Derived (now (cells .entry)) top i byte (now (cells .exit)) r ⌝ }
@@ -60,24 +97,15 @@ pub fn derive(cells: &mut [u64], top: usize, i: usize, byte: usize) -> Made
         return Made::Term(made.root, made.top);
     }
     let a = first_of(node);
+    let rest = rest_of(node, i);
     let Made::Term(da, first) = derive(cells, top, a, byte) else {
         return Made::Long;
     };
-    if kind == STAR {
-        return cat_fit(cells, first, da, i);
-    }
-    let b = second_of(node);
-    if kind == ALT {
-        let Made::Term(db, second) = derive(cells, first, b, byte) else {
-            return Made::Long;
-        };
-        return alt_short(cells, second, da, db);
-    }
-    let Made::Term(left, second) = cat_fit(cells, first, da, b) else {
+    let Made::Term(left, second) = with_rest(cells, first, kind, da, rest) else {
         return Made::Long;
     };
-    if nullable(cells, a) {
-        let Made::Term(db, third) = derive(cells, second, b, byte) else {
+    if both_sides(cells, kind, a) {
+        let Made::Term(db, third) = derive(cells, second, rest, byte) else {
             return Made::Long;
         };
         return alt_short(cells, third, left, db);

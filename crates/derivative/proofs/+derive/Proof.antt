@@ -1,18 +1,16 @@
 -- `derivative::derive` meets its contract: one law of the limited derivative a call and a return.
 -- The measure is the cell's number. Assumes nothing.
 use native.Mathlib.Omega.{arith}
-use mathlib.Core.Path.{_≡_, sym, _∙_}
-use Rattle.meaning.specs.Normal.{cat}
-use Rattle.meaning.specs.Limited.{fit, derivFit}
-use Rattle.term.specs.declared.Term.the-variants.{Cat, Alt, Star}
+use mathlib.Core.Path.{_≡_}
+use mathlib.Core.Bool.{true}
+use mathlib.Core.List.{List}
+use Rattle.meaning.specs.Limited.{derivFit}
 use Rattle.term.specs.Cells.{term}
-use Rattle.term.specs.Nodes.{kindOf, Found}
+use Rattle.term.specs.Nodes.{Found}
 use Rattle.term.specs.CellLaws.{found}
-use Rattle.term.specs.ReadLaws.{kind-most, first-below, found-cat, found-alt, found-star}
-use Rattle.normal.specs.Asked.{catCells}
 use Rattle.normal.specs.AnswerLaws.{Got, got}
-use Rattle.derivative.specs.Derives.{derivCells}
-use Rattle.derivative.specs.DeriveLaws.{leaf-asks, leaf-up, first-asks, first-long, cat-middle, cat-middle-long, null-asks, null-told, cat-alone, cat-right, cat-right-long, cat-last, cat-both, alt-right, alt-right-long, alt-last, alt-up, star-middle, star-up}
+use Rattle.derivative.specs.Derives.{derivCells, restFit, restCells, bothSides}
+use Rattle.derivative.specs.DeriveLaws.{leaf-asks, leaf-up, Parts, parts, first-asks, first-long, rest-asks, rest-long, both-asks, both-told, left-alone, second-asks, second-long, choice-asks, choice-up}
 use borrow.Author.Needs.{needs}
 use Prim.Native.Nat.{ℕ, _<_}
 use borrow.Fn.Kinds.{In}
@@ -20,15 +18,15 @@ use borrow.Fn.PlainCycle.{Measures, is, falls, and}
 use Rattle.derivative.proofs.derive.Reads as derive
 use Rattle.derivative.proofs.derive.Kinds as derive-kinds
 use Rattle.derivative.proofs.+derive.Lts-derive as derive-lts
+use Rattle.derivative.proofs.both_sides.Reads as both-sides-reads
 use Rattle.derivative.proofs.leaf_left.Reads as leaf-left-reads
+use Rattle.derivative.proofs.rest_of.Reads as rest-of-reads
+use Rattle.derivative.proofs.with_rest.Reads as with-rest-reads
 use Rattle.choice.proofs.alt_short.Reads as alt-short-reads
-use Rattle.normal.proofs.cat_fit.Reads as cat-fit-reads
 use Rattle.normal.proofs.store.Reads as store-reads
 use Rattle.term.proofs.first_of.Reads as first-of-reads
 use Rattle.term.proofs.kind_of.Reads as kind-of-reads
 use Rattle.term.proofs.node_at.Reads as node-at-reads
-use Rattle.term.proofs.nullable.Reads as nullable-reads
-use Rattle.term.proofs.second_of.Reads as second-of-reads
 use Rattle.derivative.proofs.+derive.{statement}
 use Rattle.derivative.proofs.+derive.Tie.{close}
 
@@ -54,154 +52,188 @@ K t = (
   store-reads.Learnt,
   first-of-reads.Asked,
   first-of-reads.Learnt,
+  rest-of-reads.Asked,
+  rest-of-reads.Learnt,
   derive-below t,
   derive.Post,
-  cat-fit-reads.Asked,
-  cat-fit-reads.Learnt,
-  second-of-reads.Asked,
-  second-of-reads.Learnt,
+  with-rest-reads.Asked,
+  with-rest-reads.Learnt,
+  both-sides-reads.Asked,
+  both-sides-reads.Learnt,
   alt-short-reads.Asked,
   alt-short-reads.Learnt,
-  nullable-reads.Asked,
-  nullable-reads.Learnt,
 )
 
 module _ (t : ℕ) where
-  -- what the node tells
-  node : (c : derive-lts.After-kind-of (K t) (derive-at t) derive.Post) → Found (c .before .before .before .before .args .cells .now) (c .before .before .before .before .args .i) (c .before .node-at .result)
+  -- the places where the node was read and where an answer was taken apart, and from each the way back to the one before
+  abbrev Read : Type 0
+  Read = derive-lts.After-rest-of (K t) (derive-at t) derive.Post
+
+  abbrev First : Type 0
+  First = derive-lts.After-da (K t) (derive-at t) derive.Post
+
+  abbrev Left : Type 0
+  Left = derive-lts.After-left (K t) (derive-at t) derive.Post
+
+  abbrev Chosen : Type 0
+  Chosen = derive-lts.Then2 (K t) (derive-at t) derive.Post
+
+  abbrev Second : Type 0
+  Second = derive-lts.After-db (K t) (derive-at t) derive.Post
+
+  abbrev start : Read → derive-lts.Start (K t) (derive-at t) derive.Post
+  start c = c .before .before .before .before .before .before .before
+
+  abbrev read : First → Read
+  read c = c .before .before .before .before .before .before
+
+  abbrev first : Left → First
+  first c = c .before .before .before .before .before .before .before
+
+  abbrev left : Chosen → Left
+  left c = c .before .before .before .before
+
+  abbrev chosen : Second → Chosen
+  chosen c = c .before .before .before .before .before .before
+
+  -- what was read, and the memory at each place
+  abbrev kind : Read → ℕ
+  kind c = c .before .before .before .kind-of .result
+
+  abbrev a : Read → ℕ
+  a c = c .before .first-of .result
+
+  abbrev rest : Read → ℕ
+  rest c = c .rest-of .result
+
+  abbrev byte : Read → ℕ
+  byte c = start c .args .byte
+
+  abbrev memory : Read → List ℕ
+  memory c = start c .args .cells .now
+
+  abbrev memory-1 : First → List ℕ
+  memory-1 c = c .before .before .before .before .derive .last .0
+
+  abbrev memory-2 : Left → List ℕ
+  memory-2 c = c .before .before .before .before .with-rest .last .0
+
+  -- what the node tells, and that it has parts
+  node : (c : derive-lts.After-kind-of (K t) (derive-at t) derive.Post)
+      → Found (c .before .before .before .before .args .cells .now) (c .before .before .before .before .args .i) (c .before .node-at .result)
   node c = found _ _ _ _ (c .before .before .before .before .pre .1 .sound) (c .before .before .before .before .pre .1 .held) (c .before .node-at .ensures)
 
-  -- past the tests of its kind: it has parts; it is a Star, an Alt, a Cat
-  deep : (c : derive-lts.Else1 (K t) (derive-at t) derive.Post) → 2 < kindOf (c .before .before .node-at .result)
-  deep c = omega (arith, c .before .kind-of .ensures)
-
-  at-star : (c : derive-lts.Then2 (K t) (derive-at t) derive.Post) → Found (c .before .before .before .before .before .before .before .before .before .before .before .before .before .before .args .cells .now) (c .before .before .before .before .before .before .before .before .before .before .before .before .before .before .args .i) (Star (c .before .before .before .before .before .before .before .before .first-of .result))
-  at-star c = found-star (node (c .before .before .before .before .before .before .before .before .before .before)) (sym (c .before .before .before .before .before .before .before .before .before .before .kind-of .ensures) ∙ c .if2 .taken) (c .before .before .before .before .before .before .before .before .first-of .ensures)
-
-  at-alt : (c : derive-lts.Then3 (K t) (derive-at t) derive.Post) → Found (c .before .before .before .before .before .before .before .before .before .before .before .before .before .before .before .before .args .cells .now) (c .before .before .before .before .before .before .before .before .before .before .before .before .before .before .before .before .args .i) (Alt (c .before .before .before .before .before .before .before .before .before .before .first-of .result) (c .before .second-of .result))
-  at-alt c = found-alt (node (c .before .before .before .before .before .before .before .before .before .before .before .before)) (sym (c .before .before .before .before .before .before .before .before .before .before .before .before .kind-of .ensures) ∙ c .if3 .taken) (c .before .before .before .before .before .before .before .before .before .before .first-of .ensures) (c .before .second-of .ensures)
-
-  last : (c : derive-lts.Else3 (K t) (derive-at t) derive.Post) → kindOf (c .before .before .before .before .before .before .before .before .before .before .before .before .before .node-at .result) ≡ 3
-  last c =
-      let e = c .before .before .before .before .before .before .before .before .before .before .before .before .kind-of .ensures in
-      let no-star : kindOf (c .before .before .before .before .before .before .before .before .before .before .before .before .before .node-at .result) ≡ 5 → ⊥ = λ z. c .before .before .if2 .left (e ∙ z) in
-      let no-alt : kindOf (c .before .before .before .before .before .before .before .before .before .before .before .before .before .node-at .result) ≡ 4 → ⊥ = λ z. c .if3 .left (e ∙ z) in
-      omega (arith, kind-most (c .before .before .before .before .before .before .before .before .before .before .before .before .before .node-at .result), deep (c .before .before .before .before .before .before .before .before .before .before .before), no-star, no-alt)
-
-  at-cat : (c : derive-lts.Else3 (K t) (derive-at t) derive.Post) → Found (c .before .before .before .before .before .before .before .before .before .before .before .before .before .before .before .before .args .cells .now) (c .before .before .before .before .before .before .before .before .before .before .before .before .before .before .before .before .args .i) (Cat (c .before .before .before .before .before .before .before .before .before .before .first-of .result) (c .before .second-of .result))
-  at-cat c = found-cat (node (c .before .before .before .before .before .before .before .before .before .before .before .before)) (last c) (c .before .before .before .before .before .before .before .before .before .before .first-of .ensures) (c .before .second-of .ensures)
+  has : (c : Read) → Parts (memory c) (start c .args .i) (kind c) (a c) (rest c)
+  has c =
+      let told = c .before .before .before .kind-of .ensures in
+      parts (node (c .before .before .before)) (omega (arith, told, c .before .before .if1 .left)) (start c .pre .1 .in-shape)
+      told (c .before .first-of .ensures) (c .rest-of .ensures)
 
   -- what the callees made
-  da : (c : derive-lts.After-da (K t) (derive-at t) derive.Post) → Got (c .before .before .before .before .before .before .before .before .before .before .before .before .args .cells .now) (c .before .before .before .before .before .before .before .before .before .before .before .before .args .top) (c .before .before .before .before .derive .last .0) (c .da .given .0 .0) (c .da .given .0 .1 .0)
-      (derivFit (c .before .before .before .before .before .before .before .before .before .before .before .before .args .byte) (term (c .before .before .before .before .before .before .before .before .before .before .before .before .args .cells .now) (c .before .before .before .before .before .before .first-of .result)))
-      (derivCells (term (c .before .before .before .before .before .before .before .before .before .before .before .before .args .cells .now) (c .before .before .before .before .before .before .first-of .result)))
+  da : (c : First) → Got (memory (read c)) (start (read c) .args .top) (memory-1 c) (c .da .given .0 .0) (c .da .given .0 .1 .0)
+      (derivFit (byte (read c)) (term (memory (read c)) (a (read c)))) (derivCells (term (memory (read c)) (a (read c))))
   da c = got (c .before .before .before .before .derive .ensures) (c .da .given .1)
 
-  db : (c : derive-lts.After-db (K t) (derive-at t) derive.Post) → Got (c .before .before .before .before .before .before .before .before .before .before .before .before .before .before .derive .last .0) (c .before .before .before .before .before .before .before .before .before .before .da .given .0 .1 .0) (c .before .before .before .before .derive2 .last .0) (c .db .given .0 .0) (c .db .given .0 .1 .0)
-      (derivFit (c .before .before .before .before .before .before .before .before .before .before .before .before .before .before .before .before .before .before .before .before .before .before .args .byte) (term (c .before .before .before .before .before .before .before .before .before .before .before .before .before .before .derive .last .0) (c .before .before .before .before .before .before .before .second-of .result)))
-      (derivCells (term (c .before .before .before .before .before .before .before .before .before .before .before .before .before .before .derive .last .0) (c .before .before .before .before .before .before .before .second-of .result)))
+  led : (c : Left) → Got (memory-1 (first c)) (first c .da .given .0 .1 .0) (memory-2 c) (c .left .given .0 .0) (c .left .given .0 .1 .0)
+      (restFit (kind (read (first c))) (term (memory-1 (first c)) (first c .da .given .0 .0)) (term (memory-1 (first c)) (rest (read (first c)))))
+      (restCells (kind (read (first c))) (term (memory-1 (first c)) (first c .da .given .0 .0)) (term (memory-1 (first c)) (rest (read (first c)))))
+  led c = got (c .before .before .before .before .with-rest .ensures) (c .left .given .1)
+
+  db : (c : Second) → let l = left (chosen c) in
+      Got (memory-2 l) (l .left .given .0 .1 .0) (c .before .before .before .before .derive2 .last .0) (c .db .given .0 .0) (c .db .given .0 .1 .0)
+      (derivFit (byte (read (first l))) (term (memory-2 l) (rest (read (first l))))) (derivCells (term (memory-2 l) (rest (read (first l)))))
   db c = got (c .before .before .before .before .derive2 .ensures) (c .db .given .1)
 
-  left : (c : derive-lts.After-left (K t) (derive-at t) derive.Post) → Got (c .before .before .before .before .before .before .before .before .before .before .before .before .before .before .derive .last .0) (c .before .before .before .before .before .before .before .before .before .before .da .given .0 .1 .0) (c .before .before .before .before .cat-fit2 .last .0) (c .left .given .0 .0) (c .left .given .0 .1 .0)
-      (fit (cat (term (c .before .before .before .before .before .before .before .before .before .before .before .before .before .before .derive .last .0) (c .before .before .before .before .before .before .before .before .before .before .da .given .0 .0)) (term (c .before .before .before .before .before .before .before .before .before .before .before .before .before .before .derive .last .0) (c .before .before .before .before .before .before .before .second-of .result))))
-      (catCells (term (c .before .before .before .before .before .before .before .before .before .before .before .before .before .before .derive .last .0) (c .before .before .before .before .before .before .before .before .before .before .da .given .0 .0)) (term (c .before .before .before .before .before .before .before .before .before .before .before .before .before .before .derive .last .0) (c .before .before .before .before .before .before .before .second-of .result)))
-  left c = got (c .before .before .before .before .cat-fit2 .ensures) (c .left .given .1)
-
-  db2 : (c : derive-lts.After-db2 (K t) (derive-at t) derive.Post) → Got (c .before .before .before .before .before .before .before .before .before .before .before .before .before .before .cat-fit2 .last .0) (c .before .before .before .before .before .before .before .before .before .before .left .given .0 .1 .0) (c .before .before .before .before .derive3 .last .0) (c .db2 .given .0 .0) (c .db2 .given .0 .1 .0)
-      (derivFit (c .before .before .before .before .before .before .before .before .before .before .before .before .before .before .before .before .before .before .before .before .before .before .before .before .before .before .before .before .before .before .before .before .args .byte) (term (c .before .before .before .before .before .before .before .before .before .before .before .before .before .before .cat-fit2 .last .0) (c .before .before .before .before .before .before .before .before .before .before .before .before .before .before .before .before .before .second-of .result)))
-      (derivCells (term (c .before .before .before .before .before .before .before .before .before .before .before .before .before .before .cat-fit2 .last .0) (c .before .before .before .before .before .before .before .before .before .before .before .before .before .before .before .before .before .second-of .result)))
-  db2 c = got (c .before .before .before .before .derive3 .ensures) (c .db2 .given .1)
+  -- and where the second side's derivative is asked for, it is a choice
+  both : (c : Chosen) → let n = read (first (left c)) in bothSides (kind n) (term (memory n) (a n)) ≡ true
+  both c =
+      let l = left c in
+      let n = read (first l) in
+      both-told (start n .pre .1) (has n) (byte n) (da (first l)) (led l) (c .before .both-sides .ensures) (c .if2 .taken)
 
   store-requires : derive-lts.Need-store-requires (K t) (derive-at t) derive.Post
   store-requires c κs =
-      leaf-asks (c .before .before .before .before .before .before .before .pre .1) (node (c .before .before .before)) (omega (arith, c .before .before .before .kind-of .ensures)) (c .before .before .before .before .before .before .before .args .byte) (c .leaf-left .ensures)
+      let s = c .before .before .before .before .before .before .before in
+      let n = c .before .before .before in
+      leaf-asks (s .pre .1) (node n) (omega (arith, n .kind-of .ensures)) (s .args .byte) (c .leaf-left .ensures)
 
   returns : derive-lts.Need-returns (K t) (derive-at t) derive.Post
   returns c =
-      leaf-up (c .before .before .before .before .before .before .before .before .before .before .pre .1) (node (c .before .before .before .before .before .before)) (omega (arith, c .before .before .before .before .before .before .kind-of .ensures)) (c .before .before .before .before .before .before .before .before .before .before .args .byte) (c .before .before .before .leaf-left .ensures)
+      let s = c .before .before .before .before .before .before .before .before .before .before in
+      let n = c .before .before .before .before .before .before in
+      leaf-up (s .pre .1) (node n) (omega (arith, n .kind-of .ensures)) (s .args .byte) (c .before .before .before .leaf-left .ensures)
       (c .before .before .store .ensures)
 
   derive-requires : derive-lts.Need-derive-requires (K t) (derive-at t) derive.Post
-  derive-requires c κs = (
-    omega (arith, c .before .before .before .before .before .before .before .pre .0, first-below (node (c .before .before .before)) (deep (c .before .before)), c .before .first-of .ensures),
-    first-asks (c .before .before .before .before .before .before .before .pre .1) (node (c .before .before .before)) (deep (c .before .before)) (c .before .first-of .ensures),
-  )
+  derive-requires c κs =
+      let s = start (c .before) in
+      let p = has (c .before) in
+      (omega (arith, s .pre .0, p .first), first-asks (s .pre .1) p (byte (c .before)))
 
   returns-2 : derive-lts.Need-returns-2 (K t) (derive-at t) derive.Post
   returns-2 c =
-      first-long (c .before .before .before .before .before .before .before .before .before .before .before .before .pre .1) (node (c .before .before .before .before .before .before .before .before)) (deep (c .before .before .before .before .before .before .before)) (c .before .before .before .before .before .before .first-of .ensures) (c .before .before .before .before .before .before .before .before .before .before .before .before .args .byte) (c .before .before .before .before .derive .ensures)
-      (c .enum-told .given .1)
+      let n = c .before .before .before .before .before .before in
+      first-long (start n .pre .1) (has n) (byte n) (c .before .before .before .before .derive .ensures) (c .enum-told .given .1)
 
-  cat-fit-requires : derive-lts.Need-cat-fit-requires (K t) (derive-at t) derive.Post
-  cat-fit-requires c κs = star-middle (c .before .before .before .before .before .before .before .before .before .before .before .before .before .before .before .pre .1) (c .before .before .before .before .before .before .before .before .before .before .before .before .before .before .before .args .byte) (at-star (c .before)) (da (c .before .before .before))
+  with-rest-requires : derive-lts.Need-with-rest-requires (K t) (derive-at t) derive.Post
+  with-rest-requires c κs =
+      let n = read (c .before .before) in
+      rest-asks (start n .pre .1) (has n) (byte n) (da (c .before .before))
 
   returns-3 : derive-lts.Need-returns-3 (K t) (derive-at t) derive.Post
-  returns-3 c = star-up (c .before .before .before .before .before .before .before .before .before .before .before .before .before .before .before .before .before .before .pre .1) (c .before .before .before .before .before .before .before .before .before .before .before .before .before .before .before .before .before .before .args .byte) (at-star (c .before .before .before .before)) (da (c .before .before .before .before .before .before)) (c .before .before .cat-fit .ensures)
+  returns-3 c =
+      let f = c .before .before .before .before .before .before .before in
+      let n = read f in
+      rest-long (start n .pre .1) (has n) (byte n) (da f) (c .before .before .before .before .with-rest .ensures) (c .enum-told2 .given .1)
+
+  both-sides-requires : derive-lts.Need-both-sides-requires (K t) (derive-at t) derive.Post
+  both-sides-requires c κs =
+      let l = c .before .before in
+      let n = read (first l) in
+      both-asks (start n .pre .1) (has n) (byte n) (da (first l)) (led l)
 
   derive-requires-2 : derive-lts.Need-derive-requires-2 (K t) (derive-at t) derive.Post
-  derive-requires-2 c κs = (
-    omega (arith, c .before .before .before .before .before .before .before .before .before .before .before .before .before .before .before .before .before .pre .0, at-alt (c .before) .below .1),
-    alt-right (c .before .before .before .before .before .before .before .before .before .before .before .before .before .before .before .before .before .pre .1) (c .before .before .before .before .before .before .before .before .before .before .before .before .before .before .before .before .before .args .byte) (at-alt (c .before)) (da (c .before .before .before .before .before)),
-  )
+  derive-requires-2 c κs =
+      let l = left (c .before) in
+      let n = read (first l) in
+      let yes = both (c .before) in (
+        omega (arith, start n .pre .0, has n .second yes .0),
+        second-asks (start n .pre .1) (has n) (byte n) (da (first l)) (led l) yes,
+      )
 
   returns-4 : derive-lts.Need-returns-4 (K t) (derive-at t) derive.Post
   returns-4 c =
-      alt-right-long (c .before .before .before .before .before .before .before .before .before .before .before .before .before .before .before .before .before .before .before .before .before .before .pre .1) (c .before .before .before .before .before .before .before .before .before .before .before .before .before .before .before .before .before .before .before .before .before .before .args .byte) (at-alt (c .before .before .before .before .before .before)) (da (c .before .before .before .before .before .before .before .before .before .before)) (c .before .before .before .before .derive2 .ensures) (c .enum-told2 .given .1)
+      let yes = c .before .before .before .before .before .before in
+      let l = left yes in
+      let n = read (first l) in
+      second-long (start n .pre .1) (has n) (byte n) (da (first l)) (led l) (both yes)
+      (c .before .before .before .before .derive2 .ensures) (c .enum-told3 .given .1)
 
   alt-short-requires : derive-lts.Need-alt-short-requires (K t) (derive-at t) derive.Post
-  alt-short-requires c κs = alt-last (c .before .before .before .before .before .before .before .before .before .before .before .before .before .before .before .before .before .before .before .before .before .before .before .before .pre .1) (c .before .before .before .before .before .before .before .before .before .before .before .before .before .before .before .before .before .before .before .before .before .before .before .before .args .byte) (at-alt (c .before .before .before .before .before .before .before .before)) (da (c .before .before .before .before .before .before .before .before .before .before .before .before)) (db (c .before .before))
+  alt-short-requires c κs =
+      let yes = chosen (c .before .before) in
+      let l = left yes in
+      let n = read (first l) in
+      choice-asks (start n .pre .1) (has n) (byte n) (da (first l)) (led l) (both yes) (db (c .before .before))
 
   returns-5 : derive-lts.Need-returns-5 (K t) (derive-at t) derive.Post
-  returns-5 c = alt-up (c .before .before .before .before .before .before .before .before .before .before .before .before .before .before .before .before .before .before .before .before .before .before .before .before .before .before .before .pre .1) (c .before .before .before .before .before .before .before .before .before .before .before .before .before .before .before .before .before .before .before .before .before .before .before .before .before .before .before .args .byte) (at-alt (c .before .before .before .before .before .before .before .before .before .before .before)) (da (c .before .before .before .before .before .before .before .before .before .before .before .before .before .before .before)) (db (c .before .before .before .before .before)) (c .before .before .alt-short .ensures)
-
-  cat-fit-requires-2 : derive-lts.Need-cat-fit-requires-2 (K t) (derive-at t) derive.Post
-  cat-fit-requires-2 c κs = cat-middle (c .before .before .before .before .before .before .before .before .before .before .before .before .before .before .before .before .before .pre .1) (c .before .before .before .before .before .before .before .before .before .before .before .before .before .before .before .before .before .args .byte) (at-cat (c .before)) (da (c .before .before .before .before .before))
+  returns-5 c =
+      let d = c .before .before .before .before .before in
+      let l = left (chosen d) in
+      let n = read (first l) in
+      choice-up (start n .pre .1) (has n) (byte n) (da (first l)) (led l) (both (chosen d)) (db d) (c .before .before .alt-short .ensures)
 
   returns-6 : derive-lts.Need-returns-6 (K t) (derive-at t) derive.Post
   returns-6 c =
-      cat-middle-long (c .before .before .before .before .before .before .before .before .before .before .before .before .before .before .before .before .before .before .before .before .before .before .pre .1) (c .before .before .before .before .before .before .before .before .before .before .before .before .before .before .before .before .before .before .before .before .before .before .args .byte) (at-cat (c .before .before .before .before .before .before)) (da (c .before .before .before .before .before .before .before .before .before .before)) (c .before .before .before .before .cat-fit2 .ensures) (c .enum-told3 .given .1)
-
-  nullable-requires : derive-lts.Need-nullable-requires (K t) (derive-at t) derive.Post
-  nullable-requires c κs = null-asks (c .before .before .before .before .before .before .before .before .before .before .before .before .before .before .before .before .before .before .before .before .before .before .before .before .pre .1) (c .before .before .before .before .before .before .before .before .before .before .before .before .before .before .before .before .before .before .before .before .before .before .before .before .args .byte) (at-cat (c .before .before .before .before .before .before .before .before)) (da (c .before .before .before .before .before .before .before .before .before .before .before .before)) (left (c .before .before))
-
-  derive-requires-3 : derive-lts.Need-derive-requires-3 (K t) (derive-at t) derive.Post
-  derive-requires-3 c κs = (
-    omega (arith, c .before .before .before .before .before .before .before .before .before .before .before .before .before .before .before .before .before .before .before .before .before .before .before .before .before .before .before .pre .0, at-cat (c .before .before .before .before .before .before .before .before .before .before .before) .below .1),
-    cat-right (c .before .before .before .before .before .before .before .before .before .before .before .before .before .before .before .before .before .before .before .before .before .before .before .before .before .before .before .pre .1) (c .before .before .before .before .before .before .before .before .before .before .before .before .before .before .before .before .before .before .before .before .before .before .before .before .before .before .before .args .byte) (at-cat (c .before .before .before .before .before .before .before .before .before .before .before)) (da (c .before .before .before .before .before .before .before .before .before .before .before .before .before .before .before)) (left (c .before .before .before .before .before)),
-  )
-
-  returns-7 : derive-lts.Need-returns-7 (K t) (derive-at t) derive.Post
-  returns-7 c =
-      let s = c .before .before .before .before .before .before .before .before .before .before .before .before .before .before .before .before .before .before .before .before .before .before .before .before .before .before .before .before .before .before .before .before in
-      let f = at-cat (c .before .before .before .before .before .before .before .before .before .before .before .before .before .before .before .before) in
-      cat-right-long (s .pre .1) (s .args .byte) f (da (c .before .before .before .before .before .before .before .before .before .before .before .before .before .before .before .before .before .before .before .before)) (left (c .before .before .before .before .before .before .before .before .before .before))
-      (null-told (s .pre .1) (s .args .byte) f (da (c .before .before .before .before .before .before .before .before .before .before .before .before .before .before .before .before .before .before .before .before)) (left (c .before .before .before .before .before .before .before .before .before .before)) (c .before .before .before .before .before .before .before .nullable .ensures) (c .before .before .before .before .before .before .if4 .taken)) (c .before .before .before .before .derive3 .ensures)
-      (c .enum-told4 .given .1)
-
-  alt-short-requires-2 : derive-lts.Need-alt-short-requires-2 (K t) (derive-at t) derive.Post
-  alt-short-requires-2 c κs = cat-last (c .before .before .before .before .before .before .before .before .before .before .before .before .before .before .before .before .before .before .before .before .before .before .before .before .before .before .before .before .before .before .before .before .before .before .pre .1) (c .before .before .before .before .before .before .before .before .before .before .before .before .before .before .before .before .before .before .before .before .before .before .before .before .before .before .before .before .before .before .before .before .before .before .args .byte) (at-cat (c .before .before .before .before .before .before .before .before .before .before .before .before .before .before .before .before .before .before)) (da (c .before .before .before .before .before .before .before .before .before .before .before .before .before .before .before .before .before .before .before .before .before .before)) (left (c .before .before .before .before .before .before .before .before .before .before .before .before)) (db2 (c .before .before))
-
-  returns-8 : derive-lts.Need-returns-8 (K t) (derive-at t) derive.Post
-  returns-8 c =
-      let s = c .before .before .before .before .before .before .before .before .before .before .before .before .before .before .before .before .before .before .before .before .before .before .before .before .before .before .before .before .before .before .before .before .before .before .before .before .before in
-      let f = at-cat (c .before .before .before .before .before .before .before .before .before .before .before .before .before .before .before .before .before .before .before .before .before) in
-      cat-both (s .pre .1) (s .args .byte) f (da (c .before .before .before .before .before .before .before .before .before .before .before .before .before .before .before .before .before .before .before .before .before .before .before .before .before)) (left (c .before .before .before .before .before .before .before .before .before .before .before .before .before .before .before)) (db2 (c .before .before .before .before .before))
-      (null-told (s .pre .1) (s .args .byte) f (da (c .before .before .before .before .before .before .before .before .before .before .before .before .before .before .before .before .before .before .before .before .before .before .before .before .before)) (left (c .before .before .before .before .before .before .before .before .before .before .before .before .before .before .before)) (c .before .before .before .before .before .before .before .before .before .before .before .before .nullable .ensures) (c .before .before .before .before .before .before .before .before .before .before .before .if4 .taken))
-      (c .before .before .alt-short2 .ensures)
-
-  returns-9 : derive-lts.Need-returns-9 (K t) (derive-at t) derive.Post
-  returns-9 c =
-      let s = c .before .before .before .before .before .before .before .before .before .before .before .before .before .before .before .before .before .before .before .before .before .before .before .before .before .before in
-      let f = at-cat (c .before .before .before .before .before .before .before .before .before .before) in
-      cat-alone (s .pre .1) (s .args .byte) f (da (c .before .before .before .before .before .before .before .before .before .before .before .before .before .before)) (left (c .before .before .before .before))
-      (null-told (s .pre .1) (s .args .byte) f (da (c .before .before .before .before .before .before .before .before .before .before .before .before .before .before)) (left (c .before .before .before .before)) (c .before .nullable .ensures) (c .if4 .left))
+      let l = c .before .before .before .before in
+      let n = read (first l) in
+      left-alone (start n .pre .1) (has n) (byte n) (da (first l)) (led l)
+      (both-told (start n .pre .1) (has n) (byte n) (da (first l)) (led l) (c .before .both-sides .ensures) (c .if2 .left))
 
 pub +derive-spec : {M : Type 1} → statement M
 +derive-spec = close μ-derive λ t. derive-lts.spec (K t) (derive-at t) derive.Post
     (λ c κs. search needs) (λ c κs. search needs) (λ c κs. search needs) (store-requires t) (λ c. search needs) (returns t)
-    (λ c κs. search needs) (derive-requires t) (λ c. search needs) (λ c. search needs) (λ c. search needs) (returns-2 t)
-    (cat-fit-requires t) (λ c. search needs) (returns-3 t) (λ c κs. search needs) (derive-requires-2 t) (λ c. search needs)
-    (λ c. search needs) (λ c. search needs) (returns-4 t) (alt-short-requires t) (λ c. search needs) (returns-5 t)
-    (cat-fit-requires-2 t) (λ c. search needs) (λ c. search needs) (λ c. search needs) (returns-6 t) (nullable-requires t)
-    (derive-requires-3 t) (λ c. search needs) (λ c. search needs) (λ c. search needs) (returns-7 t) (alt-short-requires-2 t)
-    (λ c. search needs) (returns-8 t) (λ c. search needs) (returns-9 t)
+    (λ c κs. search needs) (λ c κs. search needs) (derive-requires t) (λ c. search needs) (λ c. search needs) (λ c. search needs)
+    (returns-2 t) (with-rest-requires t) (λ c. search needs) (λ c. search needs) (λ c. search needs) (returns-3 t)
+    (both-sides-requires t) (derive-requires-2 t) (λ c. search needs) (λ c. search needs) (λ c. search needs) (returns-4 t)
+    (alt-short-requires t) (λ c. search needs) (returns-5 t) (λ c. search needs) (returns-6 t)
