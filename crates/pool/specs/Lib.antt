@@ -7,4 +7,3 @@ pub mod PoolLaws
 pub mod IndexLaws
 pub mod NodeLaws
 pub mod ClosedLaws
-pub mod FindLaws

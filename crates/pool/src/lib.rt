@@ -1,19 +1,17 @@
 // The pool of terms in the work area, and its index: a node is looked up before it is put, so that equal terms have equal numbers.
-// A term in scratch above the pool is looked up the same way, by its nodes.
+// A node is found along the chain of its hash.
 ghost use mathlib.Core.Path.{_≡_};
 ghost use Prim.Native.Nat.{_+_, _≤_, _<_};
 ghost use lib.ListN.{length};
-ghost use Rattle.term.specs.Cells.{term, grow, Below, Sound};
+ghost use Rattle.term.specs.Cells.{term, grow, Below};
 ghost use Rattle.term.specs.Nodes.{Fields};
 ghost use Rattle.walk.specs.Parts.{withTerm};
 ghost use Rattle.pool.specs.Pooled.{termsOf};
 ghost use Rattle.pool.specs.Index.{hashOf, Indexed, Open, After};
-ghost use Rattle.pool.specs.Steps.{sameNode, Looked, Seen};
+ghost use Rattle.pool.specs.Steps.{sameNode, Looked};
 use number::limits::POOL;
 use number::limits::RULES;
 use number::limits::TREE_NODES;
-use term::CAT;
-use term::STAR;
 use term::Term;
 use term::first_of;
 use term::hold;
@@ -92,37 +90,4 @@ pub fn put_node(index: &mut [u16], cells: &mut [u64], top: usize, node: Term) ->
         root: top,
         top: next,
     }
-}
-
-// The cell of the pool that holds the term in cell `i`, which may stand in scratch above the pool, or `top` where it is not found.
-// Only nodes in scratch are gone over, and nothing is copied.
-pub fn find_term(index: &[u16], cells: &[u64], top: usize, i: usize) -> usize
-    requires { ⌜ Indexed (now index) (now cells) top ⌝ }
-    requires { ⌜ Sound (now cells) top ⌝ }
-    requires { ⌜ Sound (now cells) (i + 1) ⌝ }
-    ensures { λ r. ⌜ Seen (now (cells .entry)) top i r ⌝ }
-{
-    if i < top {
-        return i;
-    }
-    let node = node_at(cells, i);
-    let kind = kind_of(node);
-    if kind < CAT {
-        return find_cell(index, cells, top, node);
-    }
-    let left = find_term(index, cells, top, first_of(node));
-    if top <= left {
-        return top;
-    }
-    if kind == STAR {
-        return find_cell(index, cells, top, Term::Star(left));
-    }
-    let right = find_term(index, cells, top, second_of(node));
-    if top <= right {
-        return top;
-    }
-    if kind == CAT {
-        return find_cell(index, cells, top, Term::Cat(left, right));
-    }
-    find_cell(index, cells, top, Term::Alt(left, right))
 }

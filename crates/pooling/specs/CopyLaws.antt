@@ -1,79 +1,226 @@
--- Laws for copying a tree to another area, one for each of the code's returns.
--- Each says that the copy is the term, over what reading the node, copying its children and storing it told.
-use Prim.Native.Nat.{ℕ, _+_, _-_, _<_}
+-- Laws for copying a term's nodes out, one for each place of the loop: how it begins, what a turn makes of it, and what its end tells.
+-- In a turn the term that waits last is taken apart: its node is written, and its children wait in its place.
+use Prim.Native.Nat.{ℕ, _+_, _-_, _<_, _≤_}
 use native.Mathlib.Omega.{arith}
 use mathlib.Core.Path.{_≡_, refl, sym, ap, _∙_}
-use mathlib.Core.List.{List}
+use mathlib.Core.List.{List, _∷_, map}
+use lib.ListN.{length, getD, set, drop, length-set}
+use lib.Seq.{getD-set-same, getD-set-other, drop-set-lt}
+use borrow.Author.Count.{below-more}
+use borrow.Author.Tests.{lt-ltb, le-ltb}
 use Rattle.meaning.specs.Re.{Re, size}
+use Rattle.meaning.specs.SizeLaws.{size-some}
 use Rattle.term.specs.declared.Term.{Term}
 use Rattle.term.specs.declared.Term.the-variants.{Nothing, Empty, Range, Cat, Alt, Star}
-use Rattle.term.specs.Cells.{grow, term, Below, Sound}
-use Rattle.term.specs.Area.{Grown}
-use Rattle.term.specs.Nodes.{kindOf, Found, Pushed}
-use Rattle.term.specs.CellLaws.{grown-refl, grown-trans, grown-term}
-use Rattle.term.specs.ReadLaws.{leaf-size, cat-size, alt-size, star-size}
-use Rattle.pooling.specs.Copied.{Copied}
+use Rattle.term.specs.Cells.{nodeOf, grow, term, Sound}
+use Rattle.term.specs.Nodes.{kindOf, firstOf, secondOf, Found}
+use Rattle.term.specs.CellLaws.{found}
+use Rattle.term.specs.ReadLaws.{first-below, second-below, first-size, pair-size}
+use Rattle.walk.specs.Parts.{withParts}
+use Rattle.pool.specs.Pooled.{termsOf}
+use Rattle.pool.specs.PoolLaws.{term-held-below}
+use Rattle.pool.specs.ClosedLaws.{pool-closed}
+use Rattle.pooling.specs.Postfix.{waits, opened, sizes, withAll, stackOf, Low, nodesFrom}
+use Rattle.pooling.specs.Copied.{Waited, Copied, Copying}
+use Rattle.pooling.specs.PostfixLaws.{runs-opened, opened-sizes, stack-few, stack-first, stack-same, nodes-at, nodes-none}
 
--- a node without children has its term whatever the cells
-pub leaf-grow : (u : Term) (f g : ℕ → Re) → kindOf u < 3 → grow u f ≡ grow u g
-leaf-grow Nothing f g h = refl
-leaf-grow Empty f g h = refl
-leaf-grow (Range lo hi) f g h = refl
-leaf-grow (Cat a b) f g h = absurd (omega arith)
-leaf-grow (Alt a b) f g h = absurd (omega arith)
-leaf-grow (Star a) f g h = absurd (omega arith)
+-- ---- a child that is to wait
 
-leaf-below : (u : Term) (i j : ℕ) → Below u i → kindOf u < 3 → Below u j
-leaf-below Nothing i j b h = tt
-leaf-below Empty i j b h = tt
-leaf-below (Range lo hi) i j b h = b
-leaf-below (Cat l r) i j b h = absurd (omega arith)
-leaf-below (Alt l r) i j b h = absurd (omega arith)
-leaf-below (Star l) i j b h = absurd (omega arith)
+module _ (base child : ℕ) (o : List ℕ) (n : ℕ) where
+  pub waited-not : child < base → Waited base child o n o n
+  unfolding waits
+  waited-not h =
+      record {
+        same-length = refl;
+        most = omega arith;
+        stack = λ f. rw (lt-ltb child base h);
+        low = λ i k l. l;
+        kept = λ k l. refl;
+      }
 
-pub leaf-fits : {s : List ℕ} {i : ℕ} {u : Term} (j : ℕ) → Found s i u → kindOf u < 3 → Below u j
-leaf-fits {s} {i} {u} j f h = leaf-below u i j (f .below) h
+  pub waited : (child < base → ⊥) → n < length o → Waited base child o n (set o n child) (n + 1)
+  unfolding waits
+  waited h k =
+      let here : getD (set o n child) n 0 ≡ child = getD-set-same o n child 0 k in
+      let other : (j : ℕ) → (j ≡ n → ⊥) → getD (set o n child) j 0 ≡ getD o j 0 = λ j d. getD-set-other o n j child 0 d in
+      let one : n + 1 - 1 ≡ n = omega arith in
+      record {
+        same-length = length-set o n child;
+        most = omega arith;
+        stack = λ f.
+            rw (le-ltb child base (omega arith), ← stack-same f f o (set o n child) n (λ j l. ap f (other j (λ z. omega arith))))
+            (rw (one, here) at (stack-first f (set o n child) (n + 1) (omega arith)));
+        low = λ i l m.
+            below-more (λ (j : ℕ). getD (set o n child) j 0 < i) n (λ j b. rw (other j (λ z. omega arith)) (m j b)) (rw here l);
+        kept = λ i l. drop-set-lt i o n child l;
+      }
 
--- a node stored at the place `n`, up to which the area has grown, makes v
-copied-node : {out o o′ : List ℕ} {at n r : ℕ} (w : Term) (v : Re) → Grown out at o n → n + 1 ≡ at + size v → Pushed o n w o′ r
-    → grow w (term o) ≡ v → Copied out at o′ r v
-copied-node {out} {o} {o′} {at} {n} {r} w v g e p d =
-    let last : r - 1 ≡ n = omega (arith, p .after) in
+-- ---- a node by its kind
+
+module _ (base : ℕ) (f : ℕ → Re) where
+  opened-leaf : (u : Term) (vs : List Re) → kindOf u < 3 → opened base f u vs ≡ vs
+  opened-leaf Nothing vs h = refl
+  opened-leaf Empty vs h = refl
+  opened-leaf (Range lo hi) vs h = refl
+  opened-leaf (Cat a b) vs h = absurd (omega arith)
+  opened-leaf (Alt a b) vs h = absurd (omega arith)
+  opened-leaf (Star a) vs h = absurd (omega arith)
+
+  opened-star : (u : Term) (vs : List Re) → kindOf u ≡ 5 → opened base f u vs ≡ waits base f (firstOf u) vs
+  opened-star (Star a) vs h = refl
+  opened-star Nothing vs h = absurd (omega arith)
+  opened-star Empty vs h = absurd (omega arith)
+  opened-star (Range lo hi) vs h = absurd (omega arith)
+  opened-star (Cat a b) vs h = absurd (omega arith)
+  opened-star (Alt a b) vs h = absurd (omega arith)
+
+  opened-pair : (u : Term) (vs : List Re) → 2 < kindOf u → (kindOf u ≡ 5 → ⊥)
+      → opened base f u vs ≡ waits base f (secondOf u) (waits base f (firstOf u) vs)
+  opened-pair (Cat a b) vs h n = refl
+  opened-pair (Alt a b) vs h n = refl
+  opened-pair Nothing vs h n = absurd (omega arith)
+  opened-pair Empty vs h n = absurd (omega arith)
+  opened-pair (Range lo hi) vs h n = absurd (omega arith)
+  opened-pair (Star a) vs h n = absurd (n refl)
+
+-- ---- the loop
+
+pub copying-first : {s : List ℕ} {top i : ℕ} (o : List ℕ) → Sound s top → Sound s (i + 1) → size (term s i) ≤ length o
+    → Copying s top i (length (set o 0 i)) (set o 0 i) (length o) 1
+unfolding stackOf sizes withAll
+copying-first {s} {top} {i} o pool sound h =
+    let long = length-set o 0 i in
+    let here : getD (set o 0 i) 0 0 ≡ i = getD-set-same o 0 i 0 (omega (arith, size-some (term s i))) in
     record {
-      makes = record {
-        grown = grown-trans g (p .makes .grown);
-        within = omega (arith, p .after);
-        is = ap (term o′) last ∙ p .makes .is ∙ d;
-        few = omega (arith, p .after);
-      };
-      after = omega (arith, p .after);
+      pool = pool;
+      sound = sound;
+      fits = omega arith;
+      same-length = refl;
+      within = omega arith;
+      few = rw here (omega arith);
+      low = λ j k. let z : j ≡ 0 = omega arith in rw (z, here) (omega arith);
+      runs = rw (here, nodes-none (set o 0 i) (length o) (omega arith)) (refl, refl);
     }
 
--- the root of a copy, in the area as it has grown since
-copied-kept : {out o o′ : List ℕ} {at m n : ℕ} {v : Re} → Copied out at o m v → Grown o m o′ n → term o′ (m - 1) ≡ v
-copied-kept {out} {o} {o′} {at} {m} c g = grown-term (m - 1) g (c .makes .grown .sound) (c .makes .within) ∙ c .makes .is
+module _ {s : List ℕ} {top i long : ℕ} {o : List ℕ} {start n : ℕ} (t : Copying s top i long o start n) where
+  pub copied : n ≡ 0 → Copied s top (term s i) o start
+  unfolding stackOf sizes withAll
+  copied z =
+      record {
+        within = omega (arith, t .within, t .same-length);
+        few = omega (arith, t .few, t .same-length);
+        runs = rw (z, stackOf, withAll) at (t .runs);
+      }
 
-module _ (s : List ℕ) (i : ℕ) where
-  pub copied-leaf : {out o : List ℕ} {at r : ℕ} (u : Term) → Found s i u → kindOf u < 3 → Sound out at → Pushed out at u o r
-      → Copied out at o r (term s i)
-  copied-leaf {out} {o} {at} {r} u f h ok p =
-      copied-node u (term s i) (grown-refl ok) (omega (arith, leaf-size s i u f h)) p (leaf-grow u (term out) (term s) h ∙ sym (f .is))
+  -- a turn, in which the cell that waits last is taken
+  module _ (some : 0 < n) where
+    abbrev at : ℕ
+    at = getD o (n - 1) 0
 
-  pub copied-cat : {out o o′ o″ : List ℕ} {at m n r a b : ℕ} → Found s i (Cat a b) → Copied out at o m (term s a) → Copied o m o′ n (term s b)
-      → Pushed o′ n (Cat (m - 1) (n - 1)) o″ r → Copied out at o″ r (term s i)
-  copied-cat {out} {o} {o′} {o″} {at} {m} {n} {r} {a} {b} f c d p =
-      let left = copied-kept c (d .makes .grown) in
-      copied-node (Cat (m - 1) (n - 1)) (term s i) (grown-trans (c .makes .grown) (d .makes .grown))
-      (omega (arith, cat-size s i a b f, c .after, d .after)) p (cc (left, d .makes .is, f .is))
+    at-low : at < i + 1
+    at-low = t .low (n - 1) (omega arith)
 
-  pub copied-alt : {out o o′ o″ : List ℕ} {at m n r a b : ℕ} → Found s i (Alt a b) → Copied out at o m (term s a) → Copied o m o′ n (term s b)
-      → Pushed o′ n (Alt (m - 1) (n - 1)) o″ r → Copied out at o″ r (term s i)
-  copied-alt {out} {o} {o′} {o″} {at} {m} {n} {r} {a} {b} f c d p =
-      let left = copied-kept c (d .makes .grown) in
-      copied-node (Alt (m - 1) (n - 1)) (term s i) (grown-trans (c .makes .grown) (d .makes .grown))
-      (omega (arith, alt-size s i a b f, c .after, d .after)) p (cc (left, d .makes .is, f .is))
+    rests : n - 1 + size (term s at) ≤ start
+    unfolding sizes
+    rests =
+        let e : sizes (stackOf (term s) o n) ≡ size (term s at) + sizes (stackOf (term s) o (n - 1)) = ap sizes (stack-first (term s) o n some) in
+        omega (arith, t .few, t .fits, stack-few (term s) o (n - 1))
 
-  pub copied-star : {out o o′ : List ℕ} {at n r a : ℕ} → Found s i (Star a) → Copied out at o n (term s a) → Pushed o n (Star (n - 1)) o′ r
-      → Copied out at o′ r (term s i)
-  copied-star {out} {o} {o′} {at} {n} {r} {a} f c p =
-      copied-node (Star (n - 1)) (term s i) (c .makes .grown) (omega (arith, star-size s i a f, c .after)) p (cc (c .makes .is, f .is))
+    pub last-inside : n - 1 < length o
+    last-inside = omega (arith, rests, t .within, t .same-length, size-some (term s at))
+
+    pub start-some : 0 < start
+    start-some = omega (arith, rests, size-some (term s at))
+
+    pub at-inside : at < length s
+    at-inside = omega (arith, at-low, t .sound .room)
+
+    module _ {u : Term} (e : u ≡ nodeOf (getD s at 0)) where
+      here : Found s at u
+      here = found s (i + 1) at u (t .sound) at-low e
+
+      -- its node is written
+      abbrev written : List ℕ
+      written = set o (start - 1) (getD s at 0)
+
+      other : (j : ℕ) → j < n - 1 → getD written j 0 ≡ getD o j 0
+      other j h = getD-set-other o (start - 1) j (getD s at 0) 0 (λ z. omega (arith, rests, size-some (term s at)))
+
+      written-long : length written ≡ long
+      written-long = length-set o (start - 1) (getD s at 0) ∙ t .same-length
+
+      written-stack : (f : ℕ → Re) → stackOf f written (n - 1) ≡ stackOf f o (n - 1)
+      written-stack f = stack-same f f o written (n - 1) (λ j h. ap f (other j h))
+
+      written-low : Low written (n - 1) (i + 1)
+      written-low j h = rw (other j h) (t .low j (omega arith))
+
+      written-nodes : nodesFrom written (start - 1) ≡ u ∷ nodesFrom o start
+      written-nodes =
+          let inside : start - 1 < length o = omega (arith, start-some, t .within, t .same-length) in
+          let node : getD written (start - 1) 0 ≡ getD s at 0 = getD-set-same o (start - 1) (getD s at 0) 0 inside in
+          let next : start - 1 + 1 ≡ start = omega (arith, start-some) in
+          let after : drop start written ≡ drop start o = drop-set-lt start o (start - 1) (getD s at 0) (omega (arith, start-some)) in
+          rw next at (nodes-at written (start - 1) (omega (arith, written-long, t .same-length))) ∙ rw (e, node, after)
+
+      -- once its children wait
+      next : {o′ : List ℕ} {n′ : ℕ} → length o′ ≡ long → Low o′ n′ (i + 1)
+          → ((f : ℕ → Re) → stackOf f o′ n′ ≡ opened top f u (stackOf f o (n - 1))) → drop (start - 1) o′ ≡ drop (start - 1) written
+          → Copying s top i long o′ (start - 1) n′
+      unfolding sizes
+      next {o′} {n′} l low stack d =
+          let f = term s in
+          let vs = stackOf f o (n - 1) in
+          let first : stackOf f o n ≡ grow u f ∷ vs = stack-first f o n some ∙ ap (λ (v : Re). v ∷ vs) (here .is) in
+          let before : sizes (stackOf f o n) ≡ size (grow u f) + sizes vs = ap sizes first in
+          let now : sizes (stackOf f o′ n′) ≡ sizes (opened top f u vs) = ap sizes (stack f) in
+          let nodes : nodesFrom o′ (start - 1) ≡ u ∷ nodesFrom o start = ap (map nodeOf) d ∙ written-nodes in
+          record {
+            pool = t .pool;
+            sound = t .sound;
+            fits = t .fits;
+            same-length = l;
+            within = omega (arith, t .within);
+            few = omega (arith, t .few, before, now, opened-sizes top f u vs, start-some);
+            low = low;
+            runs = rw (nodes, stack f)
+                (runs-opened top f (termsOf s top) (pool-closed s top (t .pool)) (term-held-below s top) (term s i)
+                (withParts (termsOf s top) (term s i)) (nodesFrom o start) vs u at (here .below) (rw first at (t .runs)));
+          }
+
+      pub leaf-next : kindOf u < 3 → Copying s top i long written (start - 1) (n - 1)
+      leaf-next k = next written-long written-low (λ f. written-stack f ∙ sym (opened-leaf top f u (stackOf f o (n - 1)) k)) refl
+
+      -- the first child waits, and then the second
+      module _ {a : ℕ} (deep : 2 < kindOf u) (p : a ≡ firstOf u) where
+        first-low : a < i + 1
+        first-low = omega (arith, first-below here deep, at-low)
+
+        pub first-inside : n - 1 < length written
+        first-inside = omega (arith, last-inside, written-long, t .same-length)
+
+        module _ {o′ : List ℕ} {n′ : ℕ} (w : Waited top a written (n - 1) o′ n′) where
+          waited-stack : (f : ℕ → Re) → stackOf f o′ n′ ≡ waits top f (firstOf u) (stackOf f o (n - 1))
+          waited-stack f = w .stack f ∙ rw (p, written-stack f)
+
+          pub star-next : kindOf u ≡ 5 → Copying s top i long o′ (start - 1) n′
+          star-next k =
+              next (w .same-length ∙ written-long) (w .low (i + 1) first-low written-low)
+              (λ f. waited-stack f ∙ sym (opened-star top f u (stackOf f o (n - 1)) k))
+              (w .kept (start - 1) (omega (arith, rests, first-size s at u here deep a p, size-some (term s a))))
+
+          module _ {b : ℕ} (wide : kindOf u ≡ 5 → ⊥) (q : b ≡ secondOf u) where
+            second-low : b < i + 1
+            second-low = omega (arith, second-below here deep wide, at-low)
+
+            room : n + 1 < start
+            room = omega (arith, rests, pair-size s at u here deep wide a b p q, size-some (term s a), size-some (term s b))
+
+            pub second-inside : n′ < length o′
+            second-inside = omega (arith, room, w .most, t .within, written-long, w .same-length)
+
+            pub pair-next : {o″ : List ℕ} {n″ : ℕ} → Waited top b o′ n′ o″ n″ → Copying s top i long o″ (start - 1) n″
+            pair-next x =
+                next (x .same-length ∙ w .same-length ∙ written-long) (x .low (i + 1) second-low (w .low (i + 1) first-low written-low))
+                (λ f. x .stack f ∙ rw (q, waited-stack f) (sym (opened-pair top f u (stackOf f o (n - 1)) deep wide)))
+                (x .kept (start - 1) (omega (arith, room, w .most)) ∙ w .kept (start - 1) (omega (arith, room)))

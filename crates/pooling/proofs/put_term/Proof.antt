@@ -1,15 +1,39 @@
--- `pooling::put_term` meets its contract: a term that was found is held already; else what was copied out is the term, and putting the copy puts it.
+-- `pooling::put_term` meets its contract: one law a quick way; else what was copied out is the term, and putting the copy puts it.
 -- Assumes nothing.
+use Prim.Native.Nat.{_<_}
 use native.Mathlib.Omega.{arith}
-use Rattle.term.specs.CellLaws.{sound-none}
-use Rattle.pool.specs.FindLaws.{put-seen}
-use Rattle.pooling.specs.PutLaws.{copied-asks, put-copied}
+use Rattle.term.specs.Nodes.{kindOf, Found}
+use Rattle.term.specs.CellLaws.{found}
+use Rattle.pool.specs.IndexLaws.{open-less}
+use Rattle.pooling.specs.PutLaws.{put-held, leaf-fits, put-leaf}
 use borrow.Author.Needs.{needs}
 use Rattle.pooling.proofs.put_term.Statement.{statement}
 use Rattle.pooling.proofs.put_term.Tie as tie
 
-find-term-requires : tie.Need-find-term-requires
-find-term-requires c κs = search needs
+-- what the node tells, and of a leaf its kind
+module _ (c : tie.Then2) where
+  abbrev asked : tie.Start
+  asked = c .before .before .before .before .before .before .before
+
+  node : Found (asked .args .cells .now) (asked .args .i) (c .before .before .node-at .result)
+  node = found _ _ _ _ (asked .pre .1 .0) (omega arith) (c .before .before .node-at .ensures)
+
+  leaf : kindOf (c .before .before .node-at .result) < 3
+  leaf = omega (arith, c .before .kind-of .ensures)
+
+returns : tie.Need-returns
+returns c = put-held _ _ _ _ _ (c .before .before .before .pre .0) (c .if1 .taken)
+
+node-at-requires : tie.Need-node-at-requires
+node-at-requires c κs = search needs
+
+kind-of-requires : tie.Need-kind-of-requires
+kind-of-requires c κs = search needs
+
+put-node-requires : tie.Need-put-node-requires
+put-node-requires c κs =
+    let c₀ = c .before .before in
+    (open-less 1 (asked c₀ .pre .0) (omega arith), leaf-fits _ (node c₀) (leaf c₀))
 
 same-length : tie.Need-same-length
 same-length c = search needs
@@ -17,29 +41,25 @@ same-length c = search needs
 same-length-2 : tie.Need-same-length-2
 same-length-2 c = search needs
 
-returns : tie.Need-returns
-returns c =
-    let s = c .before .before .before .before .before .before in
-    put-seen _ _ _ _ _ (s .pre .0 .pooled) (s .pre .0 .indexed) (omega arith) (c .before .find-term .ensures)
+returns-2 : tie.Need-returns-2
+returns-2 c =
+    let c₀ = c .before .before .before .before .before .before .before in
+    put-leaf (node c₀) (leaf c₀) (c .before .before .before .before .put-node .ensures)
 
 slice-aggregate-copy-out : tie.Need-slice-aggregate-copy-out
 slice-aggregate-copy-out c = search needs
 
 copy-out-requires : tie.Need-copy-out-requires
-copy-out-requires c κs =
-    let p = c .before .before .before .before .before .before .before .before .pre in
-    (p .1 .0, (sound-none _ (omega arith), omega (arith, p .1 .1)))
+copy-out-requires c κs = search needs
 
 slice-aggregate-put-copy : tie.Need-slice-aggregate-put-copy
 slice-aggregate-put-copy c = search needs
 
-sub-put-copy : tie.Need-sub-put-copy
-sub-put-copy c = search needs
-
 put-copy-requires : tie.Need-put-copy-requires
 put-copy-requires c κs =
-    let s = c .before .before .before .before .before .before .before .before .before .before .before .before .before in
-    copied-asks (s .args .index .now) (s .args .cells .now) (s .args .top) (c .before .before .before .before .copy-out .ensures) (s .pre .1 .1) (s .pre .0)
+    let asked = c .before .before .before .before .before .before .before .before .before .before .before .before .before .before in
+    let copied = c .before .before .before .before .copy-out .ensures in
+    (record { v = _; copied = copied }, open-less _ (asked .pre .0) (omega (arith, copied .few, asked .pre .1 .1)))
 
 same-length-3 : tie.Need-same-length-3
 same-length-3 c = search needs
@@ -47,22 +67,26 @@ same-length-3 c = search needs
 same-length-4 : tie.Need-same-length-4
 same-length-4 c = search needs
 
-returns-2 : tie.Need-returns-2
-returns-2 c = put-copied (c .before .before .before .before .before .before .before .before .before .copy-out .ensures) (c .before .before .before .before .put-copy .ensures)
+returns-3 : tie.Need-returns-3
+returns-3 c =
+    let copy = c .before .before .before .before .before .before .before .before .before .before .copy-out .ensures in
+    c .before .before .before .before .before .put-copy .ensures .put _ copy
 
 pub put-term-spec : {M : Type 1} → statement M
 put-term-spec =
     tie.close
     (tie.spec
-    find-term-requires
+    returns
+    node-at-requires
+    kind-of-requires
+    put-node-requires
     same-length
     same-length-2
-    returns
+    returns-2
     slice-aggregate-copy-out
     copy-out-requires
     slice-aggregate-put-copy
-    sub-put-copy
     put-copy-requires
     same-length-3
     same-length-4
-    returns-2)
+    returns-3)
