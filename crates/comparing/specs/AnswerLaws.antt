@@ -23,9 +23,9 @@ use Rattle.table.specs.SheetFormed.{well-formed}
 use Rattle.walk.specs.Walk.{rows, walkFrom}
 use Rattle.walk.specs.Walk.Walked.{halted}
 use Rattle.vector.specs.Layout.{workLength}
-use Rattle.vector.specs.MemoryLaws.{reads}
 use Rattle.steps.specs.declared.Stepped.{Stepped}
 use Rattle.steps.specs.declared.Stepped.the-variants.{Reached, Stopped}
+use Rattle.steps.specs.CallLaws.{kept-reads}
 use Rattle.start.specs.Start.{rulesIn}
 use Rattle.verdict.specs.declared.Compared.{Compared}
 use Rattle.verdict.specs.declared.Compared.the-variants.{Refused}
@@ -63,7 +63,7 @@ module _ (file : List ℕ) (n : ℕ) (labels targets area s : List ℕ) (ok : Co
         record {
           long = b .kept .long;
           few = b .few;
-          reads = λ k l. reads (b .kept .pooled .sound) (b .kept .few-rules) (b .kept .numbers k l);
+          reads = λ k l. kept-reads k (b .kept) l;
           sheets = λ k l. omega (arith, ok .rows, b .sheets k l);
         }
 

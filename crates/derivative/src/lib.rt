@@ -1,12 +1,16 @@
 // The derivative of a term by a byte, in the work area and in normal form; and the next byte at which a derivative can change.
 // Each result on the way is counted, and one of more than 255 nodes is Long.
+ghost use mathlib.Core.Bool.{true};
 ghost use mathlib.Core.Path.{_≡_};
 ghost use Prim.Native.Nat.{_+_, _≤_, min};
 ghost use Rattle.number.specs.Limits.{lastByte};
 ghost use Rattle.meaning.specs.Edges.{nextEdge};
+ghost use Rattle.meaning.specs.Limited.{short};
 ghost use Rattle.term.specs.Cells.{term, Sound};
+ghost use Rattle.term.specs.Nodes.{secondOf};
 ghost use Rattle.normal.specs.Asked.{CountedLinks};
 ghost use Rattle.derivative.specs.Derives.{Derives, rangeLeft, leafLeft, restOf, bothSides, Rested, Derived};
+ghost use Rattle.derivative.specs.Waiting.{leafEdge};
 use choice::alt_short;
 use normal::Made;
 use normal::cat_fit;
@@ -14,11 +18,14 @@ use normal::store;
 use number::limits::BYTES;
 use term::ALT;
 use term::CAT;
+use term::STAR;
 use term::Term;
+use term::WAITING;
 use term::first_of;
 use term::kind_of;
 use term::node_at;
 use term::nullable;
+use term::second_of;
 
 // What a range leaves to match after a byte.
 fn read_range(lo: usize, hi: usize, byte: usize) -> Term
@@ -122,14 +129,12 @@ fn smaller(m: usize, n: usize) -> usize
     n
 }
 
-// The next byte at which some range of a term starts or has just ended, or the number of bytes if there is none.
-pub fn next_edge(cells: &[u64], i: usize, byte: usize) -> usize
-    requires { ⌜ Sound (now cells) (i + 1) ⌝ }
-    requires { ⌜ byte ≤ lastByte ⌝ }
-    ensures { λ r. ⌜ r ≡ nextEdge byte (term (now (cells .entry)) i) ⌝ }
+// The next byte at which a term without parts has an edge, or the number of bytes if there is none.
+fn leaf_edge(leaf: Term, byte: usize) -> usize
+    requires { ⌜ secondOf leaf ≤ lastByte ⌝ }
+    ensures { λ r. ⌜ r ≡ leafEdge leaf byte ⌝ }
 {
-    let node = node_at(cells, i);
-    match node {
+    match leaf {
         Term::Nothing => BYTES,
         Term::Empty => BYTES,
         Term::Range(lo, hi) => {
@@ -141,16 +146,45 @@ pub fn next_edge(cells: &[u64], i: usize, byte: usize) -> usize
             }
             BYTES
         }
-        Term::Cat(a, b) => {
-            let first = next_edge(cells, a, byte);
-            let second = next_edge(cells, b, byte);
-            smaller(first, second)
+        Term::Cat(_, _) => BYTES,
+        Term::Alt(_, _) => BYTES,
+        Term::Star(_) => BYTES,
+    }
+}
+
+// The next byte at which some range of a term starts or has just ended, or the number of bytes if there is none.
+// It is gone through from left to right: where a node has two children, the second waits until the first has been seen.
+pub fn next_edge(cells: &[u64], i: usize, byte: usize) -> usize
+    requires { ⌜ Sound (now cells) (i + 1) ⌝ }
+    requires { ⌜ short (term (now cells) i) ≡ true ⌝ }
+    requires { ⌜ byte ≤ lastByte ⌝ }
+    ensures { λ r. ⌜ r ≡ nextEdge byte (term (now (cells .entry)) i) ⌝ }
+{
+    let whole = node_at(cells, i);
+    if kind_of(whole) < CAT {
+        return leaf_edge(whole, byte);
+    }
+    let mut waiting = [0u16; WAITING];
+    let mut count: usize = 0;
+    let mut least = BYTES;
+    let mut at = i;
+    loop {
+        let node = node_at(cells, at);
+        let kind = kind_of(node);
+        if kind < CAT {
+            least = smaller(least, leaf_edge(node, byte));
+            if count == 0 {
+                return least;
+            }
+            count -= 1;
+            at = waiting[count] as usize;
+            continue;
         }
-        Term::Alt(a, b) => {
-            let first = next_edge(cells, a, byte);
-            let second = next_edge(cells, b, byte);
-            smaller(first, second)
+        at = first_of(node);
+        if kind == STAR {
+            continue;
         }
-        Term::Star(a) => next_edge(cells, a, byte),
+        waiting[count] = second_of(node) as u16;
+        count += 1;
     }
 }

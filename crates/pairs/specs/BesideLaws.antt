@@ -23,11 +23,12 @@ use Rattle.vector.specs.Layout.{items, sheetsAt}
 use Rattle.vector.specs.Vectors.{vectorOf}
 use Rattle.vector.specs.Memory.{numbersAt, itemOf, itemsOf, heldOf}
 use Rattle.vector.specs.Promises.{Within, Reads}
-use Rattle.vector.specs.MemoryLaws.{reads, items-length, items-at}
+use Rattle.vector.specs.MemoryLaws.{items-length, items-at}
 use Rattle.steps.specs.declared.Stepped.{Stepped}
 use Rattle.steps.specs.declared.Stepped.the-variants.{Reached, Stopped}
 use Rattle.steps.specs.Step.{wayOf, Ready, Went, Comes, Steps, firstItem}
 use Rattle.steps.specs.WayLaws.{step-way}
+use Rattle.steps.specs.CallLaws.{kept-reads}
 use Rattle.steps.specs.RowLaws.{Along, along-first, along-end, along-stop, item-after, run-on, Rowed, rowed-first, rowed-end, rowed-stop, rowed-next}
 use Rattle.verdict.specs.Compare.{stateOf, numberTold}
 use Rattle.verdict.specs.NumberLaws.{told-after}
@@ -230,7 +231,7 @@ module _ (s₀ : List ℕ) (n top₀ count₀ i : ℕ) (targets : List ℕ) (pla
         pub turn-on : Onward s₀ n top₀ count₀ i targets place base s′ top′ count′ c
         turn-on = record {
           within = record { long = went .kept .long; few = omega (arith, still, went .few) };
-          reads-on = λ q. rw q (reads (went .kept .pooled .sound) (went .kept .few-rules) (went .kept .numbers i still));
+          reads-on = λ q. rw q (kept-reads i (went .kept) still);
           some = λ {v} o q. omega (arith, q, edge-all-after c (vectorOf s′ n v) (omega arith));
           fits = λ {v} o q.
               omega (arith, q, edge-all-within c (vectorOf s′ n v), turn .based, turn .beside .sheets i (turn .inside));

@@ -5,7 +5,7 @@ use mathlib.Core.Path.{_≡_}
 use mathlib.Core.Bool.{true}
 use mathlib.Core.List.{List, [], _∷_, _++_}
 use lib.ListN.{length, getD, drop}
-use Rattle.number.specs.Limits.{version, scratch}
+use Rattle.number.specs.Limits.{version, nodes, workCells, scratch}
 use Rattle.number.specs.Refused.{Answer}
 use Rattle.number.specs.Refused.Answer.{got, refused}
 use Rattle.meaning.specs.Re.{Re}
@@ -120,11 +120,14 @@ stackOf s st (suc h) = term s (getD st (h + 2) 0) ∷ stackOf s st h
 abbrev pub restCells : ℕ → ℕ → ℕ
 restCells left h = mostMembers / 2 * (left + h) + 3 * left + nodeRoom
 
+-- the rest can be worked off; a number on the stack, and in a spare place, is a cell's
 pub record Working (file : List ℕ) (at left : ℕ) (s : List ℕ) (top : ℕ) (st : List ℕ) (h : ℕ) : Type 0 where
   pub standing : Standing file at left h
   pub sound : Sound s top
   pub room : Room s top (restCells left h + pending)
-  pub places : h + left + 2 ≤ length st
+  pub places : h + left ≤ nodes
+  pub whole : length st ≡ nodes + 2
+  pub small : (i : ℕ) → i < nodes + 2 → getD st i 0 < workCells
   pub items : (i : ℕ) → i < h → Item s top (getD st (i + 2) 0)
 
 abbrev pub Worked : List ℕ → ℕ → ℕ → List ℕ → ℕ → List ℕ → ℕ → List ℕ → Made → Type 0

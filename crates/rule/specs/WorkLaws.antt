@@ -3,12 +3,12 @@
 use Prim.Native.Nat.{ℕ, zero, suc, _+_, _-_, _<_, _≤_}
 use native.Mathlib.Omega.{arith}
 use native.Mathlib.Numerals.{add-one}
-use native.Mathlib.Decide.{decLt}
+use native.Mathlib.Decide.{decLt, ℕ-discrete}
 use mathlib.Core.Path.{_≡_, refl, sym, ap, _∙_}
 use mathlib.Core.List.{List, [], _∷_, _++_}
-use lib.ListN.{length, getD, drop, set, length-set}
+use lib.ListN.{length, getD, drop, set, replicate, length-set, length-replicate, getD-replicate}
 use lib.Seq.{getD-set-same, getD-set-other}
-use Rattle.number.specs.Limits.{version, nodes, scratch}
+use Rattle.number.specs.Limits.{version, nodes, workCells, scratch}
 use Rattle.number.specs.declared.Refusal.{Refusal}
 use Rattle.number.specs.Refused.Answer.{got, refused}
 use Rattle.number.specs.Numbers.{Bytes}
@@ -216,7 +216,10 @@ module _ {file : List ℕ} {at left : ℕ} {s : List ℕ} {top : ℕ} {st : List
         stacked-at i l = getD-set-other st (h - t + 2) (i + 2) root 0 (λ e. omega arith)
 
         stacked-here : getD (set st (h - t + 2) root) (h - t + 2) 0 ≡ root
-        stacked-here = getD-set-same st (h - t + 2) root 0 (omega (arith, w .places, k .some, k .enough))
+        stacked-here = getD-set-same st (h - t + 2) root 0 (omega (arith, w .places, w .whole, k .some, k .enough))
+
+        pub root-small : root < workCells
+        root-small = omega (arith, x .makes .within, x .makes .grown .sound .room, x .makes .grown .sound .small)
 
         pub step-on : Working file next (left - 1) s1 above (set st (h - t + 2) root) (h - t + 1)
         step-on =
@@ -224,7 +227,13 @@ module _ {file : List ℕ} {at left : ℕ} {s : List ℕ} {top : ℕ} {st : List
               standing = k .rest;
               sound = x .makes .grown .sound;
               room = omega (arith, few, w .room, x .makes .few, x .makes .grown .same-length);
-              places = simp length-set (omega (arith, w .places, k .some, k .enough));
+              places = omega (arith, w .places, k .some, k .enough);
+              whole = length-set st (h - t + 2) root ∙ w .whole;
+              small = λ i l.
+                  elim (ℕ-discrete i (h - t + 2)) [
+                    | yes e ↦ rw (e, stacked-here) root-small
+                    | no e ↦ rw (getD-set-other st (h - t + 2) i root 0 e) (w .small i l)
+                  ];
               items = λ i l.
                   elim (decLt i (h - t)) [
                     | yes m ↦ rw (stacked-at i m) (item-kept _ (w .sound) (x .makes .grown) (w .items i (omega arith)))
@@ -268,14 +277,15 @@ module _ (file : List ℕ) (rule : ℕ) (has : Has file rule) (all : Bytes file)
   rule-few : p .nodes ≤ nodes
   rule-few = rw placed (there .small)
 
-  pub rule-works : {s : List ℕ} {top : ℕ} (st : List ℕ) → Sound s top → Room s top scratch → length st ≡ nodes + 2
-      → Working file (p .at) (p .nodes) s top st 0
-  rule-works st ok room places =
+  pub rule-works : {s : List ℕ} {top : ℕ} → Sound s top → Room s top scratch → Working file (p .at) (p .nodes) s top (replicate (nodes + 2) 0) 0
+  rule-works ok room =
       record {
         standing = rule-stands;
         sound = ok;
         room = omega (arith, rule-few);
         places = omega (arith, rule-few);
+        whole = length-replicate {A = ℕ} (nodes + 2) 0;
+        small = λ i l. rw (getD-replicate {A = ℕ} (nodes + 2) i 0 0 l) (omega arith);
         items = λ i l. absurd (omega arith);
       }
 

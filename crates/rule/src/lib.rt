@@ -5,7 +5,6 @@ ghost use Rattle.number.specs.Limits.{firstLetter, lastLetter, scratch};
 ghost use Rattle.term.specs.Cells.{Sound};
 ghost use Rattle.term.specs.Area.{pending, Room};
 ghost use Rattle.rule.specs.Work.{Has, RuleMade, eitherCells, nodeRoom, Operands, EitherBuilt, NodeBuilt, NodeMade};
-ghost use Rattle.rule.specs.Work.{Working, Worked};
 use book::Node;
 use book::NodeRead;
 use normal::Built;
@@ -55,36 +54,8 @@ fn node_term(cells: &mut [u64], top: usize, node: Node, a: usize, b: usize) -> M
     normal::fit(cells, made)
 }
 
-// Works off the nodes that are left, so many terms high. Two spare places below the stack let every node read two numbers.
-fn work(
-    book: &[u8],
-    at: usize,
-    left: usize,
-    cells: &mut [u64],
-    top: usize,
-    stack: &mut [usize],
-    height: usize,
-) -> Made
-    requires { ⌜ Working (now book) at left (now cells) top (now stack) height ⌝ }
-    ensures { λ r. ⌜ Worked (now (book .entry)) at left (now (cells .entry)) top (now (stack .entry)) height (now (cells .exit)) r ⌝ }
-{
-    let b = stack[height + 1];
-    if left == 0 {
-        return Made::Term(b, top);
-    }
-    let a = stack[height];
-    let NodeRead::At(node, next) = book::read_node(book, at, VERSION) else {
-        return Made::Long;
-    };
-    let Made::Term(root, above) = node_term(cells, top, node, a, b) else {
-        return Made::Long;
-    };
-    let kept = height - book::takes(node);
-    stack[kept + 2] = root;
-    work(book, next, left - 1, cells, above, stack, kept + 1)
-}
-
 // The normal form of a rule of a book that is read, above `top`, or that it or a part of it is too long.
+// Two spare places below the stack of cells let every node read two numbers.
 pub fn rule_term(book: &[u8], rule: usize, cells: &mut [u64], top: usize) -> Made
     requires { ⌜ Has (now book) rule ⌝ }
     requires { ⌜ Sound (now cells) top ⌝ }
@@ -92,6 +63,26 @@ pub fn rule_term(book: &[u8], rule: usize, cells: &mut [u64], top: usize) -> Mad
     ensures { λ r. ⌜ RuleMade (now (book .entry)) rule (now (cells .entry)) top (now (cells .exit)) r ⌝ }
 {
     let place = places::rule_place(book, rule);
-    let mut stack = [0usize; NODES + 2];
-    work(book, place.at, place.nodes, cells, top, &mut stack, 0)
+    let mut stack = [0u16; NODES + 2];
+    let mut height: usize = 0;
+    let mut at = place.at;
+    let mut left = place.nodes;
+    let mut free = top;
+    while 0 < left {
+        let a = stack[height] as usize;
+        let b = stack[height + 1] as usize;
+        let NodeRead::At(node, next) = book::read_node(book, at, VERSION) else {
+            return Made::Long;
+        };
+        let Made::Term(root, above) = node_term(cells, free, node, a, b) else {
+            return Made::Long;
+        };
+        let kept = height - book::takes(node);
+        stack[kept + 2] = root as u16;
+        height = kept + 1;
+        at = next;
+        left -= 1;
+        free = above;
+    }
+    Made::Term(stack[height + 1] as usize, free)
 }

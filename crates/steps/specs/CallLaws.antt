@@ -49,4 +49,4 @@ pub kept-within : {s : List ℕ} {n top count : ℕ} (k : ℕ) → Kept s n top 
 kept-within k x m l = record { long = x .long; few = omega arith }
 
 pub kept-reads : {s : List ℕ} {n top count : ℕ} (k : ℕ) → Kept s n top count → k < count → Reads s n (numbersAt s k)
-kept-reads k x l = reads (x .pooled .sound) (x .few-rules) (x .numbers k l)
+kept-reads k x l = reads (x .pooled .sound) (x .shaped) (x .few-rules) (x .numbers k l)

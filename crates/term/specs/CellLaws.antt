@@ -11,7 +11,8 @@ use lib.Dec.{eqb}
 use lib.ListN.{length, getD, set, length-set}
 use lib.Seq.{getD-set-same, getD-set-other}
 use borrow.Author.Count.{below-more}
-use Rattle.number.specs.Limits.{lastByte, workCells}
+use Rattle.number.specs.Limits.{workCells}
+use Rattle.meaning.specs.Edges.{Bounded}
 use Rattle.meaning.specs.Re.{Re, isNothing, isEmpty}
 use Rattle.meaning.specs.Derive.{nullable}
 use Rattle.term.specs.declared.Term.{Term}
@@ -142,15 +143,6 @@ found-empty s i u f = rw (f .is) (go u)
     go (Star a) = refl
 
 -- ---- bounds
-
--- all bounds of its ranges are bytes
-abbrev pub Bounded : Re → Type 0
-Bounded Re.Nothing = Unit
-Bounded Re.Empty = Unit
-Bounded (Re.Range lo hi) = (lo ≤ lastByte) × (hi ≤ lastByte)
-Bounded (Re.Cat a b) = Bounded a × Bounded b
-Bounded (Re.Alt a b) = Bounded a × Bounded b
-Bounded (Re.Star a) = Bounded a
 
 grow-bounded : (u : Term) (i : ℕ) (f : ℕ → Re) → Below u i → ((j : ℕ) → j < i → Bounded (f j)) → Bounded (grow u f)
 grow-bounded Nothing i f b h = tt

@@ -20,8 +20,8 @@ use Rattle.term.specs.declared.Glance.{Glance}
 use Rattle.term.specs.declared.Glance.the-variants.{Told, One, Two}
 use Rattle.term.specs.Cells.{term, Sound}
 use Rattle.term.specs.Nodes.{kindOf, firstOf, secondOf, ordering, Found}
-use Rattle.term.specs.Counts.{sizes}
-use Rattle.term.specs.Compares.{decides, Only, Both, Glanced, mostWaiting, Listed, orders, Comparing}
+use Rattle.term.specs.Counts.{mostWaiting, sizes}
+use Rattle.term.specs.Compares.{decides, Only, Both, Glanced, Listed, orders, Comparing}
 use Rattle.term.specs.CellLaws.{sound-less}
 use Rattle.term.specs.ReadLaws.{first-below, second-below, star-size, pair-size, found-star, order-star, order-pair}
 use Rattle.term.specs.CountLaws.{sizes-same, sizes-last}

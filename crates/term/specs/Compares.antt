@@ -1,6 +1,6 @@
 -- What a look at two nodes tells of the order of their terms, and how two terms are gone through in step.
 -- The pairs of places that wait stand in two lists, one for each term; the last listed comes first.
-use Prim.Native.Nat.{ℕ, zero, suc, _+_, _/_, _<_, _≤_, Ordering, Ordering·lt, Ordering·eq, Ordering·gt}
+use Prim.Native.Nat.{ℕ, zero, suc, _+_, _<_, _≤_, Ordering, Ordering·lt, Ordering·eq, Ordering·gt}
 use mathlib.Core.Path.{_≡_}
 use mathlib.Core.Bool.{Bool, true, false}
 use mathlib.Core.List.{List}
@@ -12,7 +12,7 @@ use Rattle.term.specs.declared.Glance.{Glance}
 use Rattle.term.specs.declared.Glance.the-variants.{Told, One, Two}
 use Rattle.term.specs.Cells.{term}
 use Rattle.term.specs.Nodes.{ordering}
-use Rattle.term.specs.Counts.{sizes}
+use Rattle.term.specs.Counts.{mostWaiting, sizes}
 
 -- whether a comparison found a difference
 abbrev pub decides : Ordering → Bool
@@ -43,10 +43,6 @@ Shown s i j (Two a b c d) = Both s i j a b c d
 
 pub record Glanced (s : List ℕ) (i j : ℕ) (r : Glance) : Type 0 where
   pub shown : Shown s i j r
-
--- the most pairs that can wait: for each a node of the first term was seen, and one is still to be seen
-abbrev pub mostWaiting : ℕ
-mostWaiting = (treeNodes + 1) / 2
 
 -- the first n places of a list are used, and no cell in them is above i
 pub record Listed (l : List ℕ) (n i : ℕ) : Type 0 where

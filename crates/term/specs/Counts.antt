@@ -1,6 +1,6 @@
 -- What counting the nodes of a term asks and tells, and how the places that are still to be counted are listed in the cells above the top.
 -- The list is never longer than `pending`, so that the cells past it stay as they were.
-use Prim.Native.Nat.{ℕ, zero, suc, _+_, _-_, _<_, _≤_}
+use Prim.Native.Nat.{ℕ, zero, suc, _+_, _-_, _/_, _<_, _≤_}
 use mathlib.Core.Path.{_≡_}
 use mathlib.Core.Bool.{Bool}
 use mathlib.Core.List.{List}
@@ -21,6 +21,10 @@ pub record Countable (s : List ℕ) (top i : ℕ) : Type 0 where
 pub record ShortTold (s : List ℕ) (top i : ℕ) (s′ : List ℕ) (r : Bool) : Type 0 where
   pub is : r ≡ short (term s i)
   pub wasted : Wasted s top s′ (top + pending)
+
+-- the most places that can wait while a short term is gone through: for each a node was seen, and one is still to be seen
+abbrev pub mostWaiting : ℕ
+mostWaiting = (treeNodes + 1) / 2
 
 -- the sizes of the terms of s whose places stand in the first n cells of l from top on, together
 unfoldable pub sizes : List ℕ → List ℕ → ℕ → ℕ → ℕ

@@ -48,7 +48,7 @@ pub const ALT: usize = 4;
 pub const STAR: usize = 5;
 
 // The most pairs of places that wait while two terms are compared: for each a node was seen, and one is still to be seen.
-const WAITING: usize = (TREE_NODES + 1) / 2;
+pub const WAITING: usize = (TREE_NODES + 1) / 2;
 
 // The node of a cell.
 fn unpack(cell: u64) -> Term

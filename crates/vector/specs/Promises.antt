@@ -7,7 +7,8 @@ use mathlib.Core.List.{List}
 use lib.ListN.{length, getD, set}
 use lib.Seq.{paste}
 use Rattle.number.specs.Limits.{rules, treeNodes, pool}
-use Rattle.term.specs.Cells.{Sound}
+use Rattle.meaning.specs.Limited.{short}
+use Rattle.term.specs.Cells.{term, Sound}
 use Rattle.pool.specs.Pooled.{termsOf, Pool, Pooled}
 use Rattle.pool.specs.Index.{Indexed}
 use Rattle.walk.specs.Vectors.{derived}
@@ -28,11 +29,12 @@ pub record Within (s : List ℕ) (k : ℕ) : Type 0 where
   pub long : workLength ≤ length s
   pub few : k < items
 
--- the first n terms of a vector can be read
+-- the first n terms of a vector can be read, and are short
 pub record Reads (s : List ℕ) (n : ℕ) (v : List ℕ) : Type 0 where
   pub few-rules : n ≤ rules
   pub whole : length v ≡ rules
   pub sound : (i : ℕ) → i < n → Sound s (getD v i 0 + 1)
+  pub is-short : (i : ℕ) → i < n → short (term s (getD v i 0)) ≡ true
 
 -- a vector of pool terms to derive, with the pool's index
 pub record Derivable (x s : List ℕ) (top n : ℕ) (v : List ℕ) : Type 0 where

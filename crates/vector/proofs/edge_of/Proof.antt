@@ -31,7 +31,8 @@ array-read-next-edge c = search needs
 next-edge-requires : tie.Need-next-edge-requires Inv-loop μ-loop
 next-edge-requires c κs =
     let o = c .before .before .before .before in
-    (o .pre .0 .sound (c .before .loop .i) (omega arith), o .pre .1)
+    let i = c .before .loop .i in
+    (o .pre .0 .sound i (omega arith), (o .pre .0 .is-short i (omega arith), o .pre .1))
 
 add-i : tie.Need-add-i Inv-loop μ-loop
 add-i c = search needs
