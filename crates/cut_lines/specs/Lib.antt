@@ -1,4 +1,7 @@
--- Rest says what the turns from a place on print together; RestLaws proves that this is what one turn would print.
--- What all of it comes to is specs/Print.antt's of the crate programs.
+-- Rest says what the turns from a place on print together, Parts what a part in the buffer and what is still to be printed make up.
+-- RestLaws and PartLaws prove it of the code, Main gathers the theorems that are bought; all that is printed is specs/Print.antt's of programs.
 pub mod Rest
+pub mod Parts
 pub mod RestLaws
+pub mod PartLaws
+pub mod Main

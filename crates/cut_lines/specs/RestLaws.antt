@@ -1,16 +1,15 @@
 -- A text that is cut in turns prints what it would print in one: the lines of a full turn, and then those of the cut that goes on from its place.
--- Then what each turn tells the code, and that the turns by a table that was built print the cut of the whole text.
-use Prim.Native.Nat.{ℕ, _+_, _-_, _*_, _<_, _≤_}
+-- And the turns by a table that was built print the cut of the whole text.
+use Prim.Native.Nat.{ℕ, _+_, _-_, _<_, _≤_}
 use native.Mathlib.Nat.{add-assoc}
 use native.Mathlib.Omega.{arith}
-use mathlib.Core.Path.{_≡_, refl, sym, ap, subst, _∙_}
+use mathlib.Core.Path.{_≡_, refl, sym, ap, _∙_}
 use mathlib.Core.Bool.{Bool, true, false, cond}
 use mathlib.Core.List.{List, [], _∷_, _++_, append-assoc, append-nil}
 use lib.ListN.{length, drop, length-append, length-drop}
 use lib.Seq.{drop-drop}
 use Rattle.number.specs.declared.Refusal.the-variants.{Loaded}
 use Rattle.number.specs.Refused.Outcome.{gives, refuses}
-use Rattle.number.specs.Lists.{Writes, writes-then}
 use Rattle.meaning.specs.Re.{Text}
 use Rattle.meaning.specs.Words.{Found}
 use Rattle.table.specs.Table.{Table, lent, wellFormed}
@@ -21,15 +20,12 @@ use Rattle.cutting.specs.Cut.Ending.{Done, StuckAt, FullAt}
 use Rattle.cutting.specs.CutLaws.{first-by, cut-is}
 use Rattle.cutting.specs.Tiles.{Finished}
 use Rattle.cutting.specs.TileLaws.{cut-on}
-use Rattle.lines.specs.Lines.{lineRoom}
 use Rattle.built.specs.Calls.{buildBook}
 use Rattle.programs.specs.Output.{kindIn, wordLines, cutLines}
 use Rattle.programs.specs.Print.{cutBuilt}
 use Rattle.programs.specs.EnoughLaws.{proper, full-on, cut-ample, cut-over}
 use Rattle.programs.specs.StandLaws.{Built}
-use Rattle.turns.specs.declared.Turn.{Turn}
-use Rattle.turns.specs.declared.Turn.the-variants.{Onward, Last}
-use Rattle.turns.specs.Turned.{nextBy, nextAfter, turnOf, turnLines, next, Few, Turned}
+use Rattle.turns.specs.Turned.{nextBy, nextAfter, turnOf, turnLines}
 use Rattle.turns.specs.Turned.Next.{stop, onward}
 use Rattle.cut_lines.specs.Rest.{restLines}
 
@@ -126,31 +122,6 @@ module _ (kinds : ℕ → ℕ) (s : ℕ) (labels targets : List ℕ) (text : Tex
               lines = rw well (goes-on (f .0) (f .1) (omega (arith, far .records)));
             }
         go false h well = absurd (no-stop (sym h))
-
--- ---- what the code is told by a turn
-
-module _ (kinds : ℕ → ℕ) (s : ℕ) (labels targets : List ℕ) (text : Text) (place before m : ℕ) (o o₁ : List ℕ) (at : ℕ) (r : Turn)
-    (turned : Turned kinds before (turnOf s labels targets text place m) o o₁ at r) where
-  pub came-last : (end : ℕ) → r ≡ Last end → Writes (restLines kinds s labels targets text place before) o o₁ at end
-  came-last end e =
-      subst (λ (w : List ℕ). Writes w o o₁ at end) (turn-last kinds s labels targets text place before m (sym (ap next e) ∙ turned .goes))
-      (rw e at (turned .lines))
-
-  module _ (p total end : ℕ) (e : r ≡ Onward p total end) where
-    pub came-few : end + lineRoom * before ≤ at + lineRoom * total
-    came-few = subst (Few at before) e (turned .few)
-
-    pub came-fits : end ≤ length o₁
-    came-fits = rw e at (turned .fits)
-
-    module _ (some : 0 < m) where
-      pub came-on : Onwards kinds s labels targets text place before m p total
-      came-on = turn-on kinds s labels targets text place before m p total some (sym (ap next e) ∙ turned .goes)
-
-      pub came-then : (o₂ : List ℕ) (stop′ : ℕ) → at ≤ length o → Writes (restLines kinds s labels targets text p total) o₁ o₂ end stop′
-          → Writes (restLines kinds s labels targets text place before) o o₂ at stop′
-      came-then o₂ stop′ h others =
-          subst (λ (w : List ℕ). Writes w o o₂ at stop′) (sym (came-on .lines)) (writes-then h (rw e at (turned .lines)) others)
 
 -- ---- the whole text
 

@@ -11,7 +11,7 @@ use Rattle.number.specs.Refused.{number, place}
 use Rattle.lines.specs.Digits.{digit, decimal, hex}
 use Rattle.lines.specs.Lines.{space, newline, doneWord, stuckWord, refusedWord, differsWord}
 use Rattle.lines.specs.Lines.{item, wordLine, doneLine, stuckLine, refusedLine, differsLine, hexLine, itemRoom}
-use Rattle.lines.specs.DigitLaws.{decimal-low, decimal-high, decimal-most}
+use Rattle.lines.specs.DigitLaws.{decimal-most}
 
 -- ---- lengths: numbers of so many digits
 
@@ -71,15 +71,7 @@ unfolding hexLine
 hex-length [] = omega arith
 hex-length (b ∷ text) = simp length-append (omega (arith, hex-length text))
 
--- ---- numbers, as the code comes to their digits
-
-pub low-written : (n d : ℕ) {s t : List ℕ} {at end : ℕ} → n < 10 → d ≡ digit n → Writes (d ∷ []) s t at end
-    → Writes (decimal n) s t at end
-low-written n d h e a = rw (decimal-low n h) (rw e at a)
-
-pub high-written : (n d : ℕ) {s t u : List ℕ} {at mid end : ℕ} → 10 ≤ n → d ≡ digit (n % 10) → at ≤ length s
-    → Writes (decimal (n / 10)) s t at mid → Writes (d ∷ []) t u mid end → Writes (decimal n) s u at end
-high-written n d h e room a b = rw (decimal-high n h) (writes-then room a (rw e at b))
+-- ---- a byte and a number, as the code puts their digits
 
 pub hex-written : (byte x y : ℕ) {s t u : List ℕ} {at mid end : ℕ} → x ≡ digit (byte / 16) → y ≡ digit (byte % 16) → at ≤ length s
     → Writes (x ∷ []) s t at mid → Writes (y ∷ []) t u mid end → Writes (hex byte) s u at end
@@ -91,6 +83,10 @@ unfolding item
 item-written n end room a b = writes-then room a b
 
 -- ---- text and hex, from a place on
+
+-- a writer that has come so far: what writes the rest from here on has written the whole from the start on
+abbrev pub Leads : List ℕ → List ℕ → ℕ → List ℕ → List ℕ → ℕ → Type 0
+Leads whole o₀ at rest o end = (s : List ℕ) (next : ℕ) → Writes rest o s end next → Writes whole o₀ s at next
 
 -- nothing is left of a text at its end
 pub text-none : (text s : List ℕ) (from at : ℕ) → length text ≤ from → Writes (drop from text) s s at at

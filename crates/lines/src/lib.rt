@@ -21,6 +21,9 @@ const TEN: usize = 10;
 
 const SIXTEEN: usize = 16;
 
+// The digits of the largest number of 64 bits.
+const DIGITS: usize = 20;
+
 // A digit below sixteen as a byte of text.
 fn digit(d: usize) -> u8
     requires { ⌜ d < 16 ⌝ }
@@ -41,16 +44,22 @@ pub fn put_byte(b: u8, out: &mut [u8], at: usize) -> usize
     at + 1
 }
 
-// The decimal digits of a number.
+// The decimal digits of a number, found from the last to the first.
 pub fn put_decimal(n: usize, out: &mut [u8], at: usize) -> usize
     requires { ⌜ at + length (decimal n) ≤ length (now out) ⌝ }
     ensures { λ next. ⌜ Writes (decimal n) (now (out .entry)) (now (out .exit)) at next ⌝ }
 {
-    if n < TEN {
-        return put_byte(digit(n), out, at);
+    let mut digits = [0u8; DIGITS];
+    let mut from = DIGITS;
+    let mut rest = n;
+    while rest >= TEN {
+        from -= 1;
+        digits[from] = digit(rest % TEN);
+        rest /= TEN;
     }
-    let last = put_decimal(n / TEN, out, at);
-    put_byte(digit(n % TEN), out, last)
+    from -= 1;
+    digits[from] = digit(rest);
+    put_text(&digits, from, out, at)
 }
 
 // A byte in two hexadecimal digits.
@@ -68,11 +77,13 @@ fn put_text(text: &[u8], from: usize, out: &mut [u8], at: usize) -> usize
     requires { ⌜ at + (length (now text) - from) ≤ length (now out) ⌝ }
     ensures { λ next. ⌜ Writes (drop from (now (text .entry))) (now (out .entry)) (now (out .exit)) at next ⌝ }
 {
-    if text.len() <= from {
-        return at;
+    let mut i = from;
+    let mut end = at;
+    while i < text.len() {
+        end = put_byte(text[i], out, end);
+        i += 1;
     }
-    let next = put_byte(text[from], out, at);
-    put_text(text, from + 1, out, next)
+    end
 }
 
 // A number and the byte that ends it.
@@ -164,9 +175,11 @@ pub fn put_hex_line(text: &[u8], from: usize, out: &mut [u8], at: usize) -> usiz
     ensures { λ next. ⌜ Writes (hexLine (drop from (now (text .entry)))) (now (out .entry)) (now (out .exit)) at next ⌝ }
     ensures { λ next. ⌜ next ≤ at + (2 * (length (now (text .entry)) - from) + 1) ⌝ }
 {
-    if text.len() <= from {
-        return put_byte(NEWLINE, out, at);
+    let mut i = from;
+    let mut end = at;
+    while i < text.len() {
+        end = put_hex(text[i], out, end);
+        i += 1;
     }
-    let next = put_hex(text[from], out, at);
-    put_hex_line(text, from + 1, out, next)
+    put_byte(NEWLINE, out, end)
 }

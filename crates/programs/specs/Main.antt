@@ -42,8 +42,8 @@ one-print a b = (a .place ∙ sym (b .place), a .out ∙ sym (b .out))
 
 -- ---- rooms and files
 
--- the room that their functions ask for, in bytes
-pub the-rooms : (cutRoom ≡ 3276900) × (compareRoom ≡ 1125)
+-- the room that their functions ask for, in bytes: cut's for one turn
+pub the-rooms : (cutRoom ≡ 64100) × (compareRoom ≡ 1125)
 the-rooms = (refl, refl)
 
 -- what is over its size is `refused 13 0`, whatever else is wrong with it or with the other file; the theorems below read all that is not

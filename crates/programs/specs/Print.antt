@@ -1,4 +1,4 @@
--- All that each program puts out, as a function of the bytes that it read: the promises of cut_lines, compare_lines and sheet_bytes cite these.
+-- All that each program puts out, as a function of the bytes that it read: the promises of cut_lines and printed, compare_lines and sheet_bytes cite these.
 -- A file that is missing or over its size is handed on as more bytes than its limit, and is refused before any other fault is looked for.
 use Prim.Native.Nat.{ℕ, _+_, _*_}
 use mathlib.Core.Path.{_≡_}
@@ -47,9 +47,12 @@ pub record Printed (book : List ℕ) (b : Book) (text : Text) : Type 0 where
   pub whole : (p : ℕ) → cut .ending ≡ FullAt p → ⊥
   pub printed : cutPrint book text ≡ cutLines (kindIn book) 0 cut
 
--- a line for each byte and a last one
+-- the words that are cut and printed in one turn, and the room for a line for each of them and a last one
+abbrev pub turnWords : ℕ
+turnWords = 640
+
 abbrev pub cutRoom : ℕ
-cutRoom = lineRoom * (textFile + 1)
+cutRoom = lineRoom * (turnWords + 1)
 
 -- ---- compare: Input for the book, Input for the sheet, the book's faults, the sheet's, the walk's
 

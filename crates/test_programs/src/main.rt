@@ -19,12 +19,10 @@ fn say(text: &[u8]) {
 fn cut(title: &[u8], book_name: &[u8], text_name: &[u8]) {
     let mut book = [0u8; BOOK_FILE + 1];
     let mut text = [0u8; TEXT_FILE + 1];
-    let mut out = cut_lines::room();
     let book_end = files::read_named(book_name, &mut book);
     let text_end = files::read_named(text_name, &mut text);
-    let end = cut_lines::cut_lines(&book[0..book_end], &text[0..text_end], &mut out);
     say(title);
-    say(&out[0..end]);
+    printed::print_cut(&book[0..book_end], &text[0..text_end]);
 }
 
 fn compare(title: &[u8], book_name: &[u8], sheet_name: &[u8]) {

@@ -1,6 +1,6 @@
--- What a turn does: a long text is cut in turns, each into the same records and on in the same buffer.
+-- What a turn does: a long text is cut in turns, each into the same records and at the front of the same buffer.
 -- A turn puts the lines of its words, and the text goes on from where the records were full.
-use Prim.Native.Nat.{ℕ, zero, suc, _+_, _*_, _<_, _≤_}
+use Prim.Native.Nat.{ℕ, zero, suc, _+_, _<_, _≤_}
 use mathlib.Core.Path.{_≡_}
 use mathlib.Core.Bool.{cond}
 use mathlib.Core.List.{List, [], _++_}
@@ -15,7 +15,7 @@ use Rattle.cutting.specs.Calls.{cutOf}
 use Rattle.cutting.specs.Cut.{Ending, Cut}
 use Rattle.cutting.specs.Cut.Ending.{Done, StuckAt, FullAt}
 use Rattle.cutting.specs.Flat.{recordCells}
-use Rattle.lines.specs.Lines.{wordLine, refusedLine, lineRoom}
+use Rattle.lines.specs.Lines.{wordLine, refusedLine}
 use Rattle.programs.specs.Output.{kindIn, cutLines}
 use Rattle.turns.specs.declared.Turn.{Turn}
 use Rattle.turns.specs.declared.Turn.the-variants.{Onward, Last}
@@ -69,14 +69,8 @@ abbrev pub endOf : Turn → ℕ
 endOf (Onward at total end) = end
 endOf (Last end) = end
 
--- a turn that goes on has no more lines than words
-abbrev pub Few : ℕ → ℕ → Turn → Type 0
-Few at before (Onward place total end) = end + lineRoom * before ≤ at + lineRoom * total
-Few at before (Last end) = Unit {0}
-
--- what a turn does: its lines stand in the buffer from `at` on, o before and o′ now, and the answer says how it goes on
-pub record Turned (kinds : ℕ → ℕ) (before : ℕ) (x : Outcome Cut) (o o′ : List ℕ) (at : ℕ) (r : Turn) : Type 0 where
-  pub lines : Writes (turnLines kinds before x) o o′ at (endOf r)
+-- what a turn does: its lines stand at the front of the buffer, o before and o′ now, and the answer says how it goes on
+pub record Turned (kinds : ℕ → ℕ) (before : ℕ) (x : Outcome Cut) (o o′ : List ℕ) (r : Turn) : Type 0 where
+  pub lines : Writes (turnLines kinds before x) o o′ 0 (endOf r)
   pub goes : next r ≡ nextAfter before x
   pub fits : endOf r ≤ length o′
-  pub few : Few at before r

@@ -33,7 +33,7 @@ use Rattle.cutting.specs.TileLaws.{cut-few}
 use Rattle.cutting.specs.Calls.{Report, ended, cutOf}
 use Rattle.cutting.specs.Flat.{recordCells, flat, laid}
 use Rattle.cutting.specs.Promises.{CutsInto}
-use Rattle.lines.specs.Lines.{wordLine, doneLine, stuckLine, refusedLine, lineRoom}
+use Rattle.lines.specs.Lines.{wordLine, doneLine, stuckLine, refusedLine}
 use Rattle.programs.specs.Output.{kindNumber, kindIn, wordLines, lastLine}
 use Rattle.programs.specs.EnoughLaws.{proper, words-few}
 use Rattle.turns.specs.declared.Turn.the-variants.{Onward, Last}
@@ -60,8 +60,8 @@ no-kind book i h = go (readBook book) refl
     go (got b after) e = let few = book-valid book b after e .0 .few in rw (le-ltb i (length (b .rules)) (omega arith)) refl
     go (refused r) e = refl
 
-pub kinds-all : (book kinds : List ℕ) → length kinds ≡ rules → Kinds book kinds → kindBy kinds ≡ kindIn book
-kinds-all book kinds e known = λ i j. each j i
+pub kinds-all : (book kinds : List ℕ) → rules ≤ length kinds → Kinds book kinds → kindBy kinds ≡ kindIn book
+kinds-all book kinds all known = λ i j. each j i
   where
     each : (j : ℕ) → getD kinds j 0 ≡ kindIn book j
     each j =
@@ -159,39 +159,36 @@ module _ (kinds : ℕ → ℕ) (before : ℕ) {x : Outcome Cut} {cells : List �
   came-next : nextAfter before x ≡ nextBy (before + n) e
   came-next = rw (c .is, c .count, c .ending) refl
 
-module _ (kinds : ℕ → ℕ) (before n : ℕ) {x : Outcome Cut} {cells o o₁ o₂ : List ℕ} {room left at mid end : ℕ} (starts : at ≤ length o)
-    (put : Writes (cellLines kinds cells n) o o₁ at mid) (fits : end ≤ length o₂) where
-  pub turn-done : Came x cells room left n Done → Writes (doneLine (before + n)) o₁ o₂ mid end → Turned kinds before x o o₂ at (Last end)
+module _ (kinds : ℕ → ℕ) (before n : ℕ) {x : Outcome Cut} {cells o o₁ o₂ : List ℕ} {room left mid end : ℕ}
+    (put : Writes (cellLines kinds cells n) o o₁ 0 mid) (fits : end ≤ length o₂) where
+  pub turn-done : Came x cells room left n Done → Writes (doneLine (before + n)) o₁ o₂ mid end → Turned kinds before x o o₂ (Last end)
   turn-done c last = record {
-    lines = rw (came-lines kinds before c) (writes-then starts put last);
+    lines = rw (came-lines kinds before c) (writes-then (omega arith) put last);
     goes = sym (came-next kinds before c);
     fits = fits;
-    few = tt;
   }
 
-  pub turn-stuck : (place : ℕ) → Came x cells room left n (StuckAt place) → Writes (stuckLine place) o₁ o₂ mid end → Turned kinds before x o o₂ at (Last end)
+  pub turn-stuck : (place : ℕ) → Came x cells room left n (StuckAt place) → Writes (stuckLine place) o₁ o₂ mid end
+      → Turned kinds before x o o₂ (Last end)
   turn-stuck place c last = record {
-    lines = rw (came-lines kinds before c) (writes-then starts put last);
+    lines = rw (came-lines kinds before c) (writes-then (omega arith) put last);
     goes = sym (came-next kinds before c);
     fits = fits;
-    few = tt;
   }
 
-pub turn-full : (kinds : ℕ → ℕ) (before n : ℕ) {x : Outcome Cut} {cells o o₁ : List ℕ} {room left at mid : ℕ} (place : ℕ)
-    → Writes (cellLines kinds cells n) o o₁ at mid → mid ≤ length o₁ → mid ≤ at + lineRoom * n → Came x cells room left n (FullAt place)
-    → Turned kinds before x o o₁ at (Onward place (before + n) mid)
-turn-full kinds before n place put fits most c = record {
+pub turn-full : (kinds : ℕ → ℕ) (before n : ℕ) {x : Outcome Cut} {cells o o₁ : List ℕ} {room left mid : ℕ} (place : ℕ)
+    → Writes (cellLines kinds cells n) o o₁ 0 mid → mid ≤ length o₁ → Came x cells room left n (FullAt place)
+    → Turned kinds before x o o₁ (Onward place (before + n) mid)
+turn-full kinds before n place put fits c = record {
   lines = rw (came-lines kinds before c, append-nil) put;
   goes = sym (came-next kinds before c);
   fits = fits;
-  few = omega (arith, most);
 }
 
-pub turn-refused : (kinds : ℕ → ℕ) (before : ℕ) {x : Outcome Cut} {o o₁ : List ℕ} {at end : ℕ} (r : Refusal) → x ≡ refuses r
-    → Writes (refusedLine r) o o₁ at end → end ≤ length o₁ → Turned kinds before x o o₁ at (Last end)
+pub turn-refused : (kinds : ℕ → ℕ) (before : ℕ) {x : Outcome Cut} {o o₁ : List ℕ} {end : ℕ} (r : Refusal) → x ≡ refuses r
+    → Writes (refusedLine r) o o₁ 0 end → end ≤ length o₁ → Turned kinds before x o o₁ (Last end)
 turn-refused kinds before r e put fits = record {
   lines = rw e put;
   goes = rw e refl;
   fits = fits;
-  few = tt;
 }

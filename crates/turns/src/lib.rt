@@ -1,8 +1,8 @@
-// A turn of a cut: a text is cut into so many records, and the lines of its words are put into a buffer.
-// specs/Turned.antt says what a turn puts; the turns go on in the crate cut_lines.
+// A turn of a cut: a text is cut into so many records, and the lines of its words are put at the front of a buffer.
+// specs/Turned.antt says what a turn puts; that the turns together put what one would is specs/RestLaws.antt's of the crate cut_lines.
 ghost use Prim.Native.Nat.{_+_, _-_, _*_, _/_, _^_, _<_, _≤_};
 ghost use mathlib.Core.Path.{_≡_};
-ghost use lib.ListN.{length, getD, drop};
+ghost use lib.ListN.{length, getD};
 ghost use Rattle.number.specs.Lists.{Writes};
 ghost use Rattle.cutting.specs.Flat.{recordCells};
 ghost use Rattle.lines.specs.Lines.{lineRoom};
@@ -49,32 +49,26 @@ fn kind_at(kinds: &[usize], rule: usize) -> usize
     0
 }
 
-// The lines of so many records, from record k on.
-fn put_words(
-    records: &[usize],
-    kinds: &[usize],
-    k: usize,
-    left: usize,
-    out: &mut [u8],
-    at: usize,
-) -> usize
-    requires { ⌜ recordCells * (k + left) ≤ length (now records) ⌝ }
-    requires { ⌜ at + lineRoom * left ≤ length (now out) ⌝ }
-    ensures { λ next. ⌜ Writes (cellLines (kindBy (now (kinds .entry))) (drop (recordCells * k) (now (records .entry))) left)
-        (now (out .entry)) (now (out .exit)) at next ⌝ }
-    ensures { λ next. ⌜ next ≤ at + lineRoom * left ⌝ }
+// The lines of so many records, at the front of the buffer.
+fn put_words(records: &[usize], kinds: &[usize], count: usize, out: &mut [u8]) -> usize
+    requires { ⌜ recordCells * count ≤ length (now records) ⌝ }
+    requires { ⌜ lineRoom * count ≤ length (now out) ⌝ }
+    ensures { λ end. ⌜ Writes (cellLines (kindBy (now (kinds .entry))) (now (records .entry)) count) (now (out .entry)) (now (out .exit)) 0 end ⌝ }
+    ensures { λ end. ⌜ end ≤ lineRoom * count ⌝ }
 {
-    if left == 0 {
-        return at;
+    let mut k: usize = 0;
+    let mut end: usize = 0;
+    while k < count {
+        let cell = RECORD_CELLS * k;
+        let rule = records[cell + 2];
+        let kind = kind_at(kinds, rule);
+        end = lines::put_word(records[cell], records[cell + 1], rule, kind, out, end);
+        k += 1;
     }
-    let cell = RECORD_CELLS * k;
-    let rule = records[cell + 2];
-    let kind = kind_at(kinds, rule);
-    let next = lines::put_word(records[cell], records[cell + 1], rule, kind, out, at);
-    put_words(records, kinds, k + 1, left - 1, out, next)
+    end
 }
 
-// Cuts on from a place, and puts the lines of the words into the buffer; where the text ends or is stuck, the last line too.
+// Cuts on from a place, and puts the lines of the words at the front of the buffer; where the text ends or is stuck, the last line too.
 pub fn cut_turn<'a>(
     count: usize,
     labels: &'a [u8],
@@ -85,27 +79,26 @@ pub fn cut_turn<'a>(
     kinds: &[usize],
     records: &mut [usize],
     out: &mut [u8],
-    at: usize,
 ) -> Turn
-    requires { ⌜ at + lineRoom * (length (now text) - place + 1) ≤ length (now out) ⌝ }
+    requires { ⌜ lineRoom * (length (now records) / recordCells + 1) ≤ length (now out) ⌝ }
     requires { ⌜ total + (length (now text) - place) < 2 ^ 64 ⌝ }
     ensures { λ r. ⌜ Turned (kindBy (now (kinds .entry))) total
         (turnOf count (now (labels .entry)) (now (targets .entry)) (now (text .entry)) place (length (now (records .entry)) / recordCells))
-        (now (out .entry)) (now (out .exit)) at r ⌝ }
+        (now (out .entry)) (now (out .exit)) r ⌝ }
 {
     match cutting::cut_from(count, labels, targets, text, place, records) {
         Ended::Done(n) => {
-            let next = put_words(records, kinds, 0, n, out, at);
+            let next = put_words(records, kinds, n, out);
             Turn::Last(lines::put_done(total + n, out, next))
         }
         Ended::Stuck(n, stuck) => {
-            let next = put_words(records, kinds, 0, n, out, at);
+            let next = put_words(records, kinds, n, out);
             Turn::Last(lines::put_stuck(stuck, out, next))
         }
         Ended::Full(n, full) => {
-            let next = put_words(records, kinds, 0, n, out, at);
+            let next = put_words(records, kinds, n, out);
             Turn::Onward(full, total + n, next)
         }
-        Ended::Refused(r) => Turn::Last(lines::put_refused(r, out, at)),
+        Ended::Refused(r) => Turn::Last(lines::put_refused(r, out, 0)),
     }
 }

@@ -38,7 +38,7 @@ enum-known-n c = search needs
 put-words-requires : tie.Need-put-words-requires
 put-words-requires c κs =
     let k = came-done (c .before .before) in
-    (omega (arith, k .few, c .before .before .before .before .before .before .before .cut-from .kept .1 .1 .1 .1 .1 .0), omega (arith, k .short, c .before .before .before .before .before .before .before .before .before .before .before .before .before .before .before .pre .0))
+    (omega (arith, k .few, c .before .before .before .before .before .before .before .cut-from .kept .1 .1 .1 .1 .1 .0), omega (arith, k .few, c .before .before .before .before .before .before .before .before .before .before .before .before .before .before .before .pre .0))
 
 add-put-done : tie.Need-add-put-done
 add-put-done c = omega (arith, came-done (c .before .before .before .before .before) .short, c .before .before .before .before .before .before .before .before .before .before .before .before .before .before .before .before .before .before .pre .1)
@@ -46,7 +46,7 @@ add-put-done c = omega (arith, came-done (c .before .before .before .before .bef
 put-done-requires : tie.Need-put-done-requires
 put-done-requires c κs =
     let put = c .before .before .before .put-words in
-    omega (arith, came-done (c .before .before .before .before .before .before) .short, c .before .before .before .before .before .before .before .before .before .before .before .before .before .before .before .before .before .before .before .pre .0, put .ensures .1, put .kept .1 .1 .1 .1 .0)
+    omega (arith, came-done (c .before .before .before .before .before .before) .few, c .before .before .before .before .before .before .before .before .before .before .before .before .before .before .before .before .before .before .before .pre .0, put .ensures .1, put .kept .1 .1 .1 .0)
 
 enum-known-n-2 : tie.Need-enum-known-n-2
 enum-known-n-2 c = search needs
@@ -54,12 +54,12 @@ enum-known-n-2 c = search needs
 put-words-requires-2 : tie.Need-put-words-requires-2
 put-words-requires-2 c κs =
     let k = came-stuck (c .before .before) in
-    (omega (arith, k .few, c .before .before .before .before .before .before .before .cut-from .kept .1 .1 .1 .1 .1 .0), omega (arith, k .short, c .before .before .before .before .before .before .before .before .before .before .before .before .before .before .before .pre .0))
+    (omega (arith, k .few, c .before .before .before .before .before .before .before .cut-from .kept .1 .1 .1 .1 .1 .0), omega (arith, k .few, c .before .before .before .before .before .before .before .before .before .before .before .before .before .before .before .pre .0))
 
 put-stuck-requires : tie.Need-put-stuck-requires
 put-stuck-requires c κs =
     let put = c .before .before .before .put-words2 in
-    omega (arith, came-stuck (c .before .before .before .before .before .before) .short, c .before .before .before .before .before .before .before .before .before .before .before .before .before .before .before .before .before .before .before .pre .0, put .ensures .1, put .kept .1 .1 .1 .1 .0)
+    omega (arith, came-stuck (c .before .before .before .before .before .before) .few, c .before .before .before .before .before .before .before .before .before .before .before .before .before .before .before .before .before .before .before .pre .0, put .ensures .1, put .kept .1 .1 .1 .0)
 
 enum-known-n-3 : tie.Need-enum-known-n-3
 enum-known-n-3 c = search needs
@@ -67,10 +67,10 @@ enum-known-n-3 c = search needs
 put-words-requires-3 : tie.Need-put-words-requires-3
 put-words-requires-3 c κs =
     let k = came-full (c .before .before) in
-    (omega (arith, k .few, c .before .before .before .before .before .before .before .cut-from .kept .1 .1 .1 .1 .1 .0), omega (arith, k .short, c .before .before .before .before .before .before .before .before .before .before .before .before .before .before .before .pre .0))
+    (omega (arith, k .few, c .before .before .before .before .before .before .before .cut-from .kept .1 .1 .1 .1 .1 .0), omega (arith, k .few, c .before .before .before .before .before .before .before .before .before .before .before .before .before .before .before .pre .0))
 
-add-t43 : tie.Need-add-t43
-add-t43 c = omega (arith, came-full (c .before .before .before .before .before) .short, c .before .before .before .before .before .before .before .before .before .before .before .before .before .before .before .before .before .before .pre .1)
+add-t42 : tie.Need-add-t42
+add-t42 c = omega (arith, came-full (c .before .before .before .before .before) .short, c .before .before .before .before .before .before .before .before .before .before .before .before .before .before .before .before .before .before .pre .1)
 
 enum-known-r : tie.Need-enum-known-r
 enum-known-r c = search needs
@@ -90,8 +90,8 @@ returns c =
     let put = c .before .before .before .before .before .before .put-words in
     let end = c .before .before .put-done in
     let k = came-done (c .before .before .before .before .before .before .before .before .before) in
-    turn-done (kindBy (start .args .kinds .now)) (start .args .total) _ (omega (arith, start .pre .0)) (put .ensures .0)
-    (omega (arith, k .short, start .pre .0, put .ensures .1, put .kept .1 .1 .1 .1 .0, end .ensures .1, end .kept .1 .0)) k (end .ensures .0)
+    turn-done (kindBy (start .args .kinds .now)) (start .args .total) _ (put .ensures .0)
+    (omega (arith, k .few, start .pre .0, put .ensures .1, put .kept .1 .1 .1 .0, end .ensures .1, end .kept .1 .0)) k (end .ensures .0)
 
 same-length-3 : tie.Need-same-length-3
 same-length-3 c = search needs
@@ -105,8 +105,8 @@ returns-2 c =
     let put = c .before .before .before .before .before .before .put-words2 in
     let end = c .before .before .put-stuck in
     let k = came-stuck (c .before .before .before .before .before .before .before .before .before) in
-    turn-stuck (kindBy (start .args .kinds .now)) (start .args .total) _ (omega (arith, start .pre .0)) (put .ensures .0)
-    (omega (arith, k .short, start .pre .0, put .ensures .1, put .kept .1 .1 .1 .1 .0, end .ensures .1, end .kept .1 .0)) _ k (end .ensures .0)
+    turn-stuck (kindBy (start .args .kinds .now)) (start .args .total) _ (put .ensures .0)
+    (omega (arith, k .few, start .pre .0, put .ensures .1, put .kept .1 .1 .1 .0, end .ensures .1, end .kept .1 .0)) _ k (end .ensures .0)
 
 same-length-5 : tie.Need-same-length-5
 same-length-5 c = search needs
@@ -120,7 +120,7 @@ returns-3 c =
     let put = c .before .before .put-words3 in
     let k = came-full (c .before .before .before .before .before) in
     turn-full (kindBy (start .args .kinds .now)) (start .args .total) _ _ (put .ensures .0)
-    (omega (arith, k .short, start .pre .0, put .ensures .1, put .kept .1 .1 .1 .1 .0)) (put .ensures .1) k
+    (omega (arith, k .few, start .pre .0, put .ensures .1, put .kept .1 .1 .1 .0)) k
 
 same-length-7 : tie.Need-same-length-7
 same-length-7 c = search needs
@@ -150,7 +150,7 @@ cut-turn-spec =
     put-stuck-requires
     enum-known-n-3
     put-words-requires-3
-    add-t43
+    add-t42
     enum-known-r
     put-refused-requires
     same-length
