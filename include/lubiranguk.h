@@ -43,6 +43,19 @@ enum {
     LUBI_TEXT = 512       /* bytes of a text area */
 };
 
+/* bytes of stack that a call needs at most: measured over inputs made to be deep, with a margin (docs/STACK.md) */
+enum {
+    LUBI_STACK_TYPE = 32768,
+    LUBI_STACK_CHECK_BOOK = 1024,
+    LUBI_STACK_RULE_KIND = 1024,
+    LUBI_STACK_WELL_FORMED = 256,
+    LUBI_STACK_BUILD = 49152,
+    LUBI_STACK_LOAD = 1024,
+    LUBI_STACK_WRITE_SHEET = 1024,
+    LUBI_STACK_CUT_FROM = 512,
+    LUBI_STACK_COMPARE = 49152
+};
+
 /* codes */
 enum {
     LUBI_GIVEN = 0,
