@@ -18,9 +18,12 @@
    A work area has at least LUBI_WORK cells of 64 bits, a text area at least LUBI_TEXT bytes, and an area for a typed book at least
    LUBI_BOOK bytes. No length is too long.
    What a work area holds before a call does not matter; afterwards it is all 0, but after LUBI_ROOM, which changes no area.
-   Building and comparing keep some 98,000 bytes of their own on the stack besides. Typing keeps some 6,200 bytes there for
-   the nodes of a line and for the book, and calls itself at most 33 levels deep, one for a line and one for each parenthesis that is open:
-   some 9,400 bytes were measured in all for one letter and some 26,200 at 32 deep, and no more for a text of 32,000 bytes. */
+
+   STACK. What each call needs at most stands below as LUBI_STACK_..., in bytes: a thread that calls nothing else needs that much, and what
+   its own functions take. These figures were measured on inputs made to be deep and have a margin (docs/STACK.md); `tools/stack` measures
+   them again, and fails where one is exceeded. Building and comparing go as deep as the deepest term, 170 levels at most, and typing as deep
+   as there are parentheses open, 33 levels at most; no other call's stack grows with its input. The library calls memset and memcpy: where
+   the loader binds these only when they are first called, that once took 3,200 bytes more. */
 #ifndef LUBIRANGUK_H
 #define LUBIRANGUK_H
 
