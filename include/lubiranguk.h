@@ -23,7 +23,7 @@
    its own functions take. These figures were measured on inputs made to be deep and have a margin (docs/STACK.md); `tools/stack` measures
    them again, and fails where one is exceeded. Building and comparing go as deep as the deepest term, 170 levels at most, and typing as deep
    as there are parentheses open, 33 levels at most; no other call's stack grows with its input. The library calls memset and memcpy: where
-   the loader binds these only when they are first called, that once took 3,200 bytes more. */
+   the loader binds these only when they are first called, that once took 3,200 bytes more, for which the figures have room. */
 #ifndef LUBIRANGUK_H
 #define LUBIRANGUK_H
 
@@ -53,7 +53,7 @@ enum {
     LUBI_STACK_RULE_KIND = 1024,
     LUBI_STACK_WELL_FORMED = 256,
     LUBI_STACK_BUILD = 49152,
-    LUBI_STACK_LOAD = 1024,
+    LUBI_STACK_LOAD = 4096,
     LUBI_STACK_WRITE_SHEET = 1024,
     LUBI_STACK_CUT_FROM = 512,
     LUBI_STACK_COMPARE = 49152

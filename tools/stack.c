@@ -1,5 +1,5 @@
 /* How deep the stack goes in each call of the library, for tools/stack. A call runs on a stack of its own that was painted before; the lowest byte
-   that lost its paint tells. Two paints in turn, so that a byte that a call writes is not taken for paint; what an empty call takes is left out.
+   that lost its paint tells. Two paints in turn, so that a byte that a call writes is not taken for paint. What the caller pushes counts too.
    Words: files by their endings. A .book is checked, built, and its table tested, written, cut by and compared, also with the .sheet of its name if
    there is one; a .sheet is loaded and written; .rules are typed. Prints a line a call: its name, the greatest depth, the header's figure and the
    file that led there. The status is 1 where a depth exceeds its figure, and 2 where a file cannot be read. */
@@ -8,7 +8,6 @@
 #include <stdlib.h>
 #include <string.h>
 #include <sys/mman.h>
-#include <ucontext.h>
 
 enum { GUARD = 65536, AREA = 524288, TEXT = 32768, TYPED = 65536 };
 
@@ -17,7 +16,6 @@ static uint8_t labels[LUBI_STATES], targets[LUBI_TARGETS], shown[LUBI_TEXT];
 static uint64_t work[LUBI_WORK];
 static size_t book_length, sheet_length, typed_length, states, records[LUBI_RECORD * TEXT], answer[LUBI_ANSWER];
 
-static void nothing(void) {}
 static void type(void) { lubi_type(typed, typed_length, out, sizeof out, answer); }
 static void check_book(void) { lubi_check_book(book, book_length, answer); }
 static void rule_kind(void) { lubi_rule_kind(book, book_length, LUBI_RULES - 1, answer); }
@@ -47,33 +45,26 @@ static struct { const char *name; size_t figure, depth; const char *file; } rows
 enum { ROWS = sizeof rows / sizeof *rows };
 enum { TYPE, CHECK_BOOK, RULE_KIND, WELL_FORMED, BUILD, LOAD, WRITE_SHEET, CUT_FROM, COMPARE };
 
-static ucontext_t here, there;
-static void (*task)(void);
-static size_t empty;
-
-static void enter(void) { task(); }
-
-static size_t painted(uint8_t paint) {
+/* Calls on the painted stack: the bytes from its top down to the lowest that lost its paint. Only x86-64 has these registers. */
+static size_t painted(uint8_t paint, void (*call)(void)) {
+    uint8_t *top = stack + AREA;
     memset(stack, paint, AREA);
-    getcontext(&there);
-    there.uc_stack.ss_sp = stack;
-    there.uc_stack.ss_size = AREA;
-    there.uc_link = &here;
-    makecontext(&there, enter, 0);
-    swapcontext(&here, &there);
+    __asm__ volatile("movq %%rsp, %%rbx\n\tmovq %0, %%rsp\n\tcall *%1\n\tmovq %%rbx, %%rsp"
+        : : "r"(top), "r"(call)
+        : "rax", "rbx", "rcx", "rdx", "rsi", "rdi", "r8", "r9", "r10", "r11", "memory", "cc", "xmm0", "xmm1", "xmm2", "xmm3", "xmm4", "xmm5", "xmm6",
+          "xmm7", "xmm8", "xmm9", "xmm10", "xmm11", "xmm12", "xmm13", "xmm14", "xmm15");
     size_t bare = 0;
     while (bare < AREA && stack[bare] == paint) bare++;
     return AREA - bare;
 }
 
 static size_t depth(void (*call)(void)) {
-    task = call;
-    size_t one = painted(0xA5), other = painted(0x5A);
+    size_t one = painted(0xA5, call), other = painted(0x5A, call);
     return one > other ? one : other;
 }
 
 static void measure(int row, void (*call)(void), const char *file) {
-    size_t found = depth(call) - empty;
+    size_t found = depth(call);
     if (found > rows[row].depth) {
         rows[row].depth = found;
         rows[row].file = file;
@@ -136,7 +127,6 @@ int main(int count, char **words) {
     if (pages == MAP_FAILED || mprotect(pages, GUARD, PROT_NONE) != 0) return 2;
     stack = pages + GUARD;
     for (size_t i = 0; i < TEXT; i++) text[i] = i % 97 == 0 ? ' ' : 'a' + i / 512 % 26;
-    empty = depth(nothing);
     for (int i = 1; i < count; i++) {
         if (ends(words[i], ".book")) by_book(words[i]);
         if (ends(words[i], ".sheet")) {

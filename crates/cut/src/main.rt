@@ -1,5 +1,5 @@
 // Cuts standard input by the rules of words.book and prints the words.
-// It reads both before it looks at either, and prints turn by turn; what is printed is the promise of printed::print_cut.
+// It reads both before it looks at either, and has all printed by printed::print_cut, whose promise says which bytes.
 use libc::STDIN_FILENO;
 use number::limits::BOOK_FILE;
 use number::limits::TEXT_FILE;

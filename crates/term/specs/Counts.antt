@@ -22,7 +22,7 @@ pub record ShortTold (s : List ℕ) (top i : ℕ) (s′ : List ℕ) (r : Bool) :
   pub is : r ≡ short (term s i)
   pub wasted : Wasted s top s′ (top + pending)
 
--- the most places that can wait while a short term is gone through: for each a node was seen, and one is still to be seen
+-- room for the places that wait while a short term is gone through: for each a node was seen, and one is still to be seen
 abbrev pub mostWaiting : ℕ
 mostWaiting = (treeNodes + 1) / 2
 

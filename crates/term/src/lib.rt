@@ -47,7 +47,7 @@ pub const ALT: usize = 4;
 
 pub const STAR: usize = 5;
 
-// The most places that wait while a short term is gone through: for each a node was seen, and one is still to be seen.
+// Room for the places that wait while a short term is gone through: for each a node was seen, and one is still to be seen.
 pub const WAITING: usize = (TREE_NODES + 1) / 2;
 
 // The node of a cell.
