@@ -7,16 +7,17 @@ use lib.ListN.{length, getD, drop}
 use Rattle.meaning.specs.Re.{Re, size}
 use Rattle.term.specs.declared.Term.{Term}
 use Rattle.term.specs.Cells.{grow, term, Below, Sound}
+use Rattle.term.specs.Places.{termsAt, sizes}
 use Rattle.walk.specs.Parts.{withParts}
 use Rattle.pool.specs.Pooled.{termsOf}
 use Rattle.pool.specs.Index.{Open, Put}
-use Rattle.pooling.specs.Postfix.{operand, rest, takes, made, left, Runs, waits, sizes, withAll, stackOf, Low, nodesFrom}
+use Rattle.pooling.specs.Postfix.{operand, rest, takes, made, left, Runs, waits, withAll, Low, nodesFrom}
 
 -- a child was listed, or stands in the pool; places above the list are as they were
 pub record Waited (base child : ℕ) (o : List ℕ) (n : ℕ) (o′ : List ℕ) (n′ : ℕ) : Type 0 where
   pub same-length : length o′ ≡ length o
   pub most : n′ ≤ n + 1
-  pub stack : (f : ℕ → Re) → stackOf f o′ n′ ≡ waits base f child (stackOf f o n)
+  pub stack : (f : ℕ → Re) → termsAt f o′ n′ ≡ waits base f child (termsAt f o n)
   pub low : (i : ℕ) → child < i → Low o n i → Low o′ n′ i
   pub kept : (k : ℕ) → n < k → drop k o′ ≡ drop k o
 
@@ -38,23 +39,23 @@ pub record Copying (s : List ℕ) (top i long : ℕ) (o : List ℕ) (start n : �
   pub fits : size (term s i) ≤ long
   pub same-length : length o ≡ long
   pub within : start ≤ long
-  pub few : long + sizes (stackOf (term s) o n) ≤ start + size (term s i)
+  pub few : long + sizes (termsAt (term s) o n) ≤ start + size (term s i)
   pub low : Low o n (i + 1)
-  pub runs : Runs top (term s) (term s i) (withParts (termsOf s top) (term s i)) (nodesFrom o start) (stackOf (term s) o n)
-      (withAll (termsOf s top) (stackOf (term s) o n))
+  pub runs : Runs top (term s) (term s i) (withParts (termsOf s top) (term s i)) (nodesFrom o start) (termsAt (term s) o n)
+      (withAll (termsOf s top) (termsAt (term s) o n))
 
 -- a child's number, and the stack without it
 pub record Taken (base child : ℕ) (o : List ℕ) (n number n′ : ℕ) : Type 0 where
   pub fewer : n′ + takes base child ≡ n
-  pub stack : (f : ℕ → Re) → stackOf f o n′ ≡ rest base child (stackOf f o n)
-  pub is : (f : ℕ → Re) → f number ≡ operand base f child (stackOf f o n)
+  pub stack : (f : ℕ → Re) → termsAt f o n′ ≡ rest base child (termsAt f o n)
+  pub is : (f : ℕ → Re) → f number ≡ operand base f child (termsAt f o n)
   pub low : (top : ℕ) → base ≤ top → Low o n top → number < top
 
 -- a node over the numbers of its children, and the stack without them
 pub record Rooted (base : ℕ) (u : Term) (o : List ℕ) (n : ℕ) (u′ : Term) (n′ : ℕ) : Type 0 where
   pub fewer : n′ ≤ n
-  pub stack : (f : ℕ → Re) → stackOf f o n′ ≡ left base u (stackOf f o n)
-  pub is : (f : ℕ → Re) → grow u′ f ≡ made base f u (stackOf f o n)
+  pub stack : (f : ℕ → Re) → termsAt f o n′ ≡ left base u (termsAt f o n)
+  pub is : (f : ℕ → Re) → grow u′ f ≡ made base f u (termsAt f o n)
   pub below : (top : ℕ) → base ≤ top → Low o n top → Below u′ top
 
 -- on the way: the nodes from k on are to be put, and the numbers of n terms that were put stand in the front. The pool has grown
@@ -65,7 +66,7 @@ pub record Putting (s : List ℕ) (top : ℕ) (v : Re) (long start : ℕ) (x s�
   pub within : k ≤ long
   pub high : n ≤ k
   pub low : Low o n top′
-  pub runs : Runs top (term s) v (withParts (termsOf s top) v) (nodesFrom o k) (stackOf (term s′) o n) (termsOf s′ top′)
+  pub runs : Runs top (term s) v (withParts (termsOf s top) v) (nodesFrom o k) (termsAt (term s′) o n) (termsOf s′ top′)
   pub ready : Open x s′ top′ (long - k)
   pub up : top ≤ top′
   pub few : top′ + start ≤ top + k

@@ -5,7 +5,7 @@ use native.Mathlib.Omega.{arith}
 use mathlib.Core.Path.{_≡_, refl, sym, ap, _∙_}
 use mathlib.Core.List.{List, _∷_, map}
 use lib.ListN.{length, getD, set, drop, length-set}
-use lib.Seq.{getD-set-same, getD-set-other, drop-set-lt}
+use lib.Seq.{getD-set-other, drop-set-lt}
 use borrow.Author.Count.{below-more}
 use borrow.Author.Tests.{lt-ltb, le-ltb}
 use Rattle.meaning.specs.Re.{Re, size}
@@ -14,15 +14,17 @@ use Rattle.term.specs.declared.Term.{Term}
 use Rattle.term.specs.declared.Term.the-variants.{Nothing, Empty, Range, Cat, Alt, Star}
 use Rattle.term.specs.Cells.{nodeOf, grow, term, Sound}
 use Rattle.term.specs.Nodes.{kindOf, firstOf, secondOf, Found}
+use Rattle.term.specs.Places.{termsAt, sizes}
 use Rattle.term.specs.CellLaws.{found}
 use Rattle.term.specs.ReadLaws.{first-below, second-below, first-size, pair-size}
+use Rattle.term.specs.PlaceLaws.{set-there, set-other, terms-same, terms-last, terms-set, sizes-most, sizes-last}
 use Rattle.walk.specs.Parts.{withParts}
 use Rattle.pool.specs.Pooled.{termsOf}
 use Rattle.pool.specs.PoolLaws.{term-held-below}
 use Rattle.pool.specs.ClosedLaws.{pool-closed}
-use Rattle.pooling.specs.Postfix.{waits, opened, sizes, withAll, stackOf, Low, nodesFrom}
+use Rattle.pooling.specs.Postfix.{waits, opened, withAll, Low, nodesFrom}
 use Rattle.pooling.specs.Copied.{Waited, Copied, Copying}
-use Rattle.pooling.specs.PostfixLaws.{runs-opened, opened-sizes, stack-few, stack-first, stack-same, nodes-at, nodes-none}
+use Rattle.pooling.specs.PostfixLaws.{runs-opened, opened-sizes, nodes-at, nodes-none}
 
 -- ---- a child that is to wait
 
@@ -41,17 +43,13 @@ module _ (base child : ℕ) (o : List ℕ) (n : ℕ) where
   pub waited : (child < base → ⊥) → n < length o → Waited base child o n (set o n child) (n + 1)
   unfolding waits
   waited h k =
-      let here : getD (set o n child) n 0 ≡ child = getD-set-same o n child 0 k in
-      let other : (j : ℕ) → (j ≡ n → ⊥) → getD (set o n child) j 0 ≡ getD o j 0 = λ j d. getD-set-other o n j child 0 d in
-      let one : n + 1 - 1 ≡ n = omega arith in
       record {
         same-length = length-set o n child;
         most = omega arith;
-        stack = λ f.
-            rw (le-ltb child base (omega arith), ← stack-same f f o (set o n child) n (λ j l. ap f (other j (λ z. omega arith))))
-            (rw (one, here) at (stack-first f (set o n child) (n + 1) (omega arith)));
+        stack = λ f. rw (le-ltb child base (omega arith)) (terms-set f o n child k);
         low = λ i l m.
-            below-more (λ (j : ℕ). getD (set o n child) j 0 < i) n (λ j b. rw (other j (λ z. omega arith)) (m j b)) (rw here l);
+            below-more (λ (j : ℕ). getD (set o n child) j 0 < i) n (λ j b. rw (set-other o n child k j b) (m j b))
+            (rw (set-there o n child k) l);
         kept = λ i l. drop-set-lt i o n child l;
       }
 
@@ -87,10 +85,10 @@ module _ (base : ℕ) (f : ℕ → Re) where
 
 pub copying-first : {s : List ℕ} {top i : ℕ} (o : List ℕ) → Sound s top → Sound s (i + 1) → size (term s i) ≤ length o
     → Copying s top i (length (set o 0 i)) (set o 0 i) (length o) 1
-unfolding stackOf sizes withAll
+unfolding termsAt sizes withAll
 copying-first {s} {top} {i} o pool sound h =
     let long = length-set o 0 i in
-    let here : getD (set o 0 i) 0 0 ≡ i = getD-set-same o 0 i 0 (omega (arith, size-some (term s i))) in
+    let here : getD (set o 0 i) 0 0 ≡ i = set-there o 0 i (omega (arith, size-some (term s i))) in
     record {
       pool = pool;
       sound = sound;
@@ -104,12 +102,12 @@ copying-first {s} {top} {i} o pool sound h =
 
 module _ {s : List ℕ} {top i long : ℕ} {o : List ℕ} {start n : ℕ} (t : Copying s top i long o start n) where
   pub copied : n ≡ 0 → Copied s top (term s i) o start
-  unfolding stackOf sizes withAll
+  unfolding termsAt sizes withAll
   copied z =
       record {
         within = omega (arith, t .within, t .same-length);
         few = omega (arith, t .few, t .same-length);
-        runs = rw (z, stackOf, withAll) at (t .runs);
+        runs = rw (z, termsAt, withAll) at (t .runs);
       }
 
   -- a turn, in which the cell that waits last is taken
@@ -121,10 +119,7 @@ module _ {s : List ℕ} {top i long : ℕ} {o : List ℕ} {start n : ℕ} (t : C
     at-low = t .low (n - 1) (omega arith)
 
     rests : n - 1 + size (term s at) ≤ start
-    unfolding sizes
-    rests =
-        let e : sizes (stackOf (term s) o n) ≡ size (term s at) + sizes (stackOf (term s) o (n - 1)) = ap sizes (stack-first (term s) o n some) in
-        omega (arith, t .few, t .fits, stack-few (term s) o (n - 1))
+    rests = omega (arith, t .few, t .fits, sizes-last (term s) o n some, sizes-most (term s) o (n - 1))
 
     pub last-inside : n - 1 < length o
     last-inside = omega (arith, rests, t .within, t .same-length, size-some (term s at))
@@ -149,8 +144,8 @@ module _ {s : List ℕ} {top i long : ℕ} {o : List ℕ} {start n : ℕ} (t : C
       written-long : length written ≡ long
       written-long = length-set o (start - 1) (getD s at 0) ∙ t .same-length
 
-      written-stack : (f : ℕ → Re) → stackOf f written (n - 1) ≡ stackOf f o (n - 1)
-      written-stack f = stack-same f f o written (n - 1) (λ j h. ap f (other j h))
+      written-stack : (f : ℕ → Re) → termsAt f written (n - 1) ≡ termsAt f o (n - 1)
+      written-stack f = terms-same f f o written (n - 1) (λ j h. ap f (other j h))
 
       written-low : Low written (n - 1) (i + 1)
       written-low j h = rw (other j h) (t .low j (omega arith))
@@ -158,22 +153,22 @@ module _ {s : List ℕ} {top i long : ℕ} {o : List ℕ} {start n : ℕ} (t : C
       written-nodes : nodesFrom written (start - 1) ≡ u ∷ nodesFrom o start
       written-nodes =
           let inside : start - 1 < length o = omega (arith, start-some, t .within, t .same-length) in
-          let node : getD written (start - 1) 0 ≡ getD s at 0 = getD-set-same o (start - 1) (getD s at 0) 0 inside in
+          let node : getD written (start - 1) 0 ≡ getD s at 0 = set-there o (start - 1) (getD s at 0) inside in
           let next : start - 1 + 1 ≡ start = omega (arith, start-some) in
           let after : drop start written ≡ drop start o = drop-set-lt start o (start - 1) (getD s at 0) (omega (arith, start-some)) in
           rw next at (nodes-at written (start - 1) (omega (arith, written-long, t .same-length))) ∙ rw (e, node, after)
 
       -- once its children wait
       next : {o′ : List ℕ} {n′ : ℕ} → length o′ ≡ long → Low o′ n′ (i + 1)
-          → ((f : ℕ → Re) → stackOf f o′ n′ ≡ opened top f u (stackOf f o (n - 1))) → drop (start - 1) o′ ≡ drop (start - 1) written
+          → ((f : ℕ → Re) → termsAt f o′ n′ ≡ opened top f u (termsAt f o (n - 1))) → drop (start - 1) o′ ≡ drop (start - 1) written
           → Copying s top i long o′ (start - 1) n′
       unfolding sizes
       next {o′} {n′} l low stack d =
           let f = term s in
-          let vs = stackOf f o (n - 1) in
-          let first : stackOf f o n ≡ grow u f ∷ vs = stack-first f o n some ∙ ap (λ (v : Re). v ∷ vs) (here .is) in
-          let before : sizes (stackOf f o n) ≡ size (grow u f) + sizes vs = ap sizes first in
-          let now : sizes (stackOf f o′ n′) ≡ sizes (opened top f u vs) = ap sizes (stack f) in
+          let vs = termsAt f o (n - 1) in
+          let first : termsAt f o n ≡ grow u f ∷ vs = terms-last f o n some ∙ ap (λ (v : Re). v ∷ vs) (here .is) in
+          let before : sizes (termsAt f o n) ≡ size (grow u f) + sizes vs = ap sizes first in
+          let now : sizes (termsAt f o′ n′) ≡ sizes (opened top f u vs) = ap sizes (stack f) in
           let nodes : nodesFrom o′ (start - 1) ≡ u ∷ nodesFrom o start = ap (map nodeOf) d ∙ written-nodes in
           record {
             pool = t .pool;
@@ -189,7 +184,7 @@ module _ {s : List ℕ} {top i long : ℕ} {o : List ℕ} {start n : ℕ} (t : C
           }
 
       pub leaf-next : kindOf u < 3 → Copying s top i long written (start - 1) (n - 1)
-      leaf-next k = next written-long written-low (λ f. written-stack f ∙ sym (opened-leaf top f u (stackOf f o (n - 1)) k)) refl
+      leaf-next k = next written-long written-low (λ f. written-stack f ∙ sym (opened-leaf top f u (termsAt f o (n - 1)) k)) refl
 
       -- the first child waits, and then the second
       module _ {a : ℕ} (deep : 2 < kindOf u) (p : a ≡ firstOf u) where
@@ -200,13 +195,13 @@ module _ {s : List ℕ} {top i long : ℕ} {o : List ℕ} {start n : ℕ} (t : C
         first-inside = omega (arith, last-inside, written-long, t .same-length)
 
         module _ {o′ : List ℕ} {n′ : ℕ} (w : Waited top a written (n - 1) o′ n′) where
-          waited-stack : (f : ℕ → Re) → stackOf f o′ n′ ≡ waits top f (firstOf u) (stackOf f o (n - 1))
+          waited-stack : (f : ℕ → Re) → termsAt f o′ n′ ≡ waits top f (firstOf u) (termsAt f o (n - 1))
           waited-stack f = w .stack f ∙ rw (p, written-stack f)
 
           pub star-next : kindOf u ≡ 5 → Copying s top i long o′ (start - 1) n′
           star-next k =
               next (w .same-length ∙ written-long) (w .low (i + 1) first-low written-low)
-              (λ f. waited-stack f ∙ sym (opened-star top f u (stackOf f o (n - 1)) k))
+              (λ f. waited-stack f ∙ sym (opened-star top f u (termsAt f o (n - 1)) k))
               (w .kept (start - 1) (omega (arith, rests, first-size s at u here deep a p, size-some (term s a))))
 
           module _ {b : ℕ} (wide : kindOf u ≡ 5 → ⊥) (q : b ≡ secondOf u) where
@@ -222,5 +217,5 @@ module _ {s : List ℕ} {top i long : ℕ} {o : List ℕ} {start n : ℕ} (t : C
             pub pair-next : {o″ : List ℕ} {n″ : ℕ} → Waited top b o′ n′ o″ n″ → Copying s top i long o″ (start - 1) n″
             pair-next x =
                 next (x .same-length ∙ w .same-length ∙ written-long) (x .low (i + 1) second-low (w .low (i + 1) first-low written-low))
-                (λ f. x .stack f ∙ rw (q, waited-stack f) (sym (opened-pair top f u (stackOf f o (n - 1)) deep wide)))
+                (λ f. x .stack f ∙ rw (q, waited-stack f) (sym (opened-pair top f u (termsAt f o (n - 1)) deep wide)))
                 (x .kept (start - 1) (omega (arith, room, w .most)) ∙ w .kept (start - 1) (omega (arith, room)))

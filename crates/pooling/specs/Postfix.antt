@@ -1,13 +1,13 @@
 -- A term's tree in postfix order: each node after its children, of which those that stand in the pool are left out.
 -- Its nodes are worked off with a stack of terms, and what each makes is put into the pool; PostfixLaws says how the order comes about.
-use Prim.Native.Nat.{ℕ, zero, suc, _+_, _<_, _≤_}
+use Prim.Native.Nat.{ℕ, _+_, _<_, _≤_}
 use mathlib.Core.Path.{_≡_}
 use mathlib.Core.Bool.{cond}
 use mathlib.Core.List.{List, [], _∷_, map}
 use lib.Dec.{ltb}
 use lib.ListN.{length, getD, drop}
 use Rattle.number.specs.Limits.{lastByte}
-use Rattle.meaning.specs.Re.{Re, size}
+use Rattle.meaning.specs.Re.{Re}
 use Rattle.term.specs.declared.Term.{Term}
 use Rattle.term.specs.declared.Term.the-variants.{Nothing, Empty, Range, Cat, Alt, Star}
 use Rattle.term.specs.Cells.{nodeOf}
@@ -70,23 +70,14 @@ module _ (base : ℕ) where
   opened f (Alt a b) vs = waits f b (waits f a vs)
   opened f (Star a) vs = waits f a vs
 
--- the nodes of a stack's terms, and the pool with all their parts, the last one's last
-unfoldable pub sizes : List Re → ℕ
-sizes [] = 0
-sizes (v ∷ vs) = size v + sizes vs
-
+-- the pool with all the parts of a stack's terms, the last one's last
 unfoldable pub withAll : List Re → List Re → List Re
 withAll pool [] = pool
 withAll pool (v ∷ vs) = withParts (withAll pool vs) v
 
 -- ---- in memory
 
--- the terms of the cells whose numbers stand in the first n places, the last one first
-unfoldable pub stackOf : (ℕ → Re) → List ℕ → ℕ → List Re
-stackOf f o zero = []
-stackOf f o (suc n) = f (getD o n 0) ∷ stackOf f o n
-
--- these numbers are below top
+-- the numbers in the first n places, whose terms are the stack, are below top
 abbrev pub Low : List ℕ → ℕ → ℕ → Type 0
 Low o n top = (j : ℕ) → j < n → getD o j 0 < top
 

@@ -1,6 +1,6 @@
 -- Laws of the postfix order: to take a term apart and let its children wait is undone by working its node off.
 -- So what is worked off in the end is the term with its parts, in their order.
-use Prim.Native.Nat.{ℕ, zero, suc, _+_, _-_, _<_, _≤_}
+use Prim.Native.Nat.{ℕ, suc, _+_, _<_, _≤_}
 use native.Mathlib.Omega.{arith}
 use mathlib.Core.Path.{_≡_, refl, sym, ap}
 use mathlib.Core.Bool.{Bool, true, false, cond}
@@ -10,13 +10,13 @@ use lib.Dec.{ltb}
 use lib.ListN.{length, getD, drop, drop-of-length-le}
 use lib.Seq.{drop-cons}
 use Rattle.meaning.specs.Re.{Re, size}
-use Rattle.meaning.specs.SizeLaws.{size-some}
 use Rattle.term.specs.declared.Term.{Term}
 use Rattle.term.specs.declared.Term.the-variants.{Nothing, Empty, Range, Cat, Alt, Star}
 use Rattle.term.specs.Cells.{nodeOf, grow, Below}
+use Rattle.term.specs.Places.{sizes}
 use Rattle.walk.specs.Parts.{withTerm, withParts, InPool, Closed}
 use Rattle.walk.specs.PartsLaws.{takes-parts, parts-closed, parts-held}
-use Rattle.pooling.specs.Postfix.{operand, rest, takes, made, left, Fit, Runs, waits, opened, sizes, withAll, stackOf, nodesFrom}
+use Rattle.pooling.specs.Postfix.{operand, rest, takes, made, left, Fit, Runs, waits, opened, withAll, nodesFrom}
 
 -- ---- a child that waits is the operand taken
 
@@ -125,26 +125,6 @@ opened-sizes base f (Alt a b) vs = omega (arith, waits-sizes base f a vs, waits-
 opened-sizes base f (Star a) vs = omega (arith, waits-sizes base f a vs)
 
 -- ---- in memory
-
-pub stack-length : (f : ℕ → Re) (o : List ℕ) (n : ℕ) → length (stackOf f o n) ≡ n
-unfolding stackOf
-stack-length f o zero = refl
-stack-length f o (suc n) = omega (arith, stack-length f o n)
-
-pub stack-few : (f : ℕ → Re) (o : List ℕ) (n : ℕ) → n ≤ sizes (stackOf f o n)
-unfolding stackOf sizes
-stack-few f o zero = omega arith
-stack-few f o (suc n) = omega (arith, stack-few f o n, size-some (f (getD o n 0)))
-
-pub stack-first : (f : ℕ → Re) (o : List ℕ) (n : ℕ) → 0 < n → stackOf f o n ≡ f (getD o (n - 1) 0) ∷ stackOf f o (n - 1)
-unfolding stackOf
-stack-first f o n h = let e : n ≡ suc (n - 1) = omega arith in ap (stackOf f o) e
-
-pub stack-same : (f g : ℕ → Re) (o o′ : List ℕ) (n : ℕ) → ((j : ℕ) → j < n → g (getD o′ j 0) ≡ f (getD o j 0))
-    → stackOf g o′ n ≡ stackOf f o n
-unfolding stackOf
-stack-same f g o o′ zero h = refl
-stack-same f g o o′ (suc n) h = rw (h n (omega arith), stack-same f g o o′ n (λ j k. h j (omega arith)))
 
 pub nodes-at : (o : List ℕ) (k : ℕ) → k < length o → nodesFrom o k ≡ nodeOf (getD o k 0) ∷ nodesFrom o (k + 1)
 nodes-at o k h = let e : k + 1 ≡ suc k = omega arith in rw e (ap (map nodeOf) (drop-cons o k 0 h))

@@ -7,7 +7,7 @@ use mathlib.Core.Bool.{Bool, true, false, cond}
 use mathlib.Core.List.{List, [], _∷_}
 use lib.Dec.{ltb}
 use lib.ListN.{length, getD, set, drop, length-set}
-use lib.Seq.{getD-set-same, getD-set-other, drop-set-lt}
+use lib.Seq.{drop-set-lt}
 use borrow.Author.Count.{below-more}
 use borrow.Author.Tests.{ltb-true, lt-ltb, le-ltb}
 use Rattle.meaning.specs.Re.{Re, size}
@@ -15,8 +15,10 @@ use Rattle.term.specs.declared.Term.{Term}
 use Rattle.term.specs.declared.Term.the-variants.{Nothing, Empty, Range, Cat, Alt, Star}
 use Rattle.term.specs.Cells.{nodeOf, grow, term, Below}
 use Rattle.term.specs.Nodes.{kindOf, Found}
+use Rattle.term.specs.Places.{termsAt}
 use Rattle.term.specs.CellLaws.{frame}
 use Rattle.term.specs.ReadLaws.{leaf-size}
+use Rattle.term.specs.PlaceLaws.{set-there, set-other, terms-length, terms-same, terms-last, terms-set}
 use Rattle.walk.specs.Parts.{withTerm, withParts}
 use Rattle.walk.specs.PartsLaws.{parts-held}
 use Rattle.pool.specs.Pooled.{termsOf}
@@ -24,9 +26,9 @@ use Rattle.pool.specs.Index.{After, Put, Open}
 use Rattle.pool.specs.PoolLaws.{pool-as, term-held-below}
 use Rattle.pool.specs.IndexLaws.{open-less, open-after}
 use Rattle.pool.specs.ClosedLaws.{pool-closed}
-use Rattle.pooling.specs.Postfix.{operand, rest, takes, made, left, Fit, Runs, stackOf, nodesFrom}
+use Rattle.pooling.specs.Postfix.{operand, rest, takes, made, left, Fit, Runs, nodesFrom}
 use Rattle.pooling.specs.Copied.{Copied, Taken, Rooted, Putting}
-use Rattle.pooling.specs.PostfixLaws.{stack-length, stack-first, stack-same, nodes-at, nodes-none}
+use Rattle.pooling.specs.PostfixLaws.{nodes-at, nodes-none}
 
 -- ---- the quick ways
 
@@ -104,8 +106,8 @@ module _ (base child : ℕ) (o : List ℕ) (n : ℕ) where
   taken-made h some =
       record {
         fewer = rw (le-ltb child base (omega arith)) (omega arith);
-        stack = λ f. rw (le-ltb child base (omega arith), stack-first f o n some);
-        is = λ f. rw (le-ltb child base (omega arith), stack-first f o n some);
+        stack = λ f. rw (le-ltb child base (omega arith), terms-last f o n some);
+        is = λ f. rw (le-ltb child base (omega arith), terms-last f o n some);
         low = λ top k l. l (n - 1) (omega arith);
       }
 
@@ -175,7 +177,7 @@ module _ (base : ℕ) (f g : ℕ → Re) (same : (a : ℕ) → a < base → f a 
 
 pub putting-first : {s : List ℕ} {top : ℕ} {v : Re} {o : List ℕ} {start : ℕ} (x : List ℕ) → Copied s top v o start
     → Open x s top (length o - start) → Putting s top v (length o) start x s top o 0 start
-unfolding stackOf
+unfolding termsAt
 putting-first x c p =
     record {
       pool = p .pooled .sound;
@@ -197,20 +199,20 @@ module _ {s : List ℕ} {top : ℕ} {v : Re} {long start : ℕ} {x s′ : List �
     (t : Putting s top v long start x s′ top′ o n k) where
   -- the end: one number is left
   module _ (none : long ≤ k) where
-    last : (stackOf (term s′) o n ≡ v ∷ []) × (termsOf s′ top′ ≡ withParts (termsOf s top) v)
+    last : (termsAt (term s′) o n ≡ v ∷ []) × (termsOf s′ top′ ≡ withParts (termsOf s top) v)
     last = rw (nodes-none o k (omega (arith, t .same-length))) at (t .runs)
 
     one : n ≡ 1
-    one = sym (stack-length (term s′) o n) ∙ ap length (last .0)
+    one = sym (terms-length (term s′) o n) ∙ ap length (last .0)
 
     pub root-inside : 0 < length o
     root-inside = omega (arith, one, t .high, t .within, t .same-length)
 
     pub put-copied : (o₀ : List ℕ) → Copied s top v o₀ start → length o₀ ≡ long
         → Put s top (termsOf s top) x s′ (getD o 0 0) top′ v (top + size v)
-    unfolding stackOf
+    unfolding termsAt
     put-copied o₀ c l =
-        let first : stackOf (term s′) o 1 ≡ v ∷ [] = rw one at (last .0) in
+        let first : termsAt (term s′) o 1 ≡ v ∷ [] = rw one at (last .0) in
         record {
           pool = pool-as (withParts (termsOf s top) v) (t .ready .pooled) (last .1);
           indexed = t .ready .indexed;
@@ -225,11 +227,11 @@ module _ {s : List ℕ} {top : ℕ} {v : Re} {long start : ℕ} {x s′ : List �
 
   -- a turn
   module _ (more : k < long) {u : Term} (e : u ≡ nodeOf (getD o k 0)) where
-    runs : Runs top (term s) v (withParts (termsOf s top) v) (u ∷ nodesFrom o (k + 1)) (stackOf (term s′) o n) (termsOf s′ top′)
+    runs : Runs top (term s) v (withParts (termsOf s top) v) (u ∷ nodesFrom o (k + 1)) (termsAt (term s′) o n) (termsOf s′ top′)
     runs = rw (nodes-at o k (omega (arith, t .same-length)), ← e) at (t .runs)
 
     pub fit : Fit top u n
-    fit = rw (stack-length (term s′) o n) at (runs .0)
+    fit = rw (terms-length (term s′) o n) at (runs .0)
 
     module _ {u′ : Term} {n′ : ℕ} (r : Rooted top u o n u′ n′) where
       pub asks : Open x s′ top′ 1 × Below u′ top′
@@ -243,31 +245,28 @@ module _ {s : List ℕ} {top : ℕ} {v : Re} {long start : ℕ} {x s′ : List �
         put = set o n′ root
 
         here : getD put n′ 0 ≡ root
-        here = getD-set-same o n′ root 0 put-inside
+        here = set-there o n′ root put-inside
 
         other : (j : ℕ) → j < n′ → getD put j 0 ≡ getD o j 0
-        other j h = getD-set-other o n′ j root 0 (λ z. omega arith)
+        other j h = set-other o n′ root put-inside j h
 
         low : (j : ℕ) → j < n′ → getD o j 0 < top′
         low j h = t .low j (omega (arith, r .fewer))
 
         -- the terms on the stack
         abbrev vs : List Re
-        vs = stackOf (term s′) o n
+        vs = termsAt (term s′) o n
 
         is : made top (term s) u vs ≡ grow u′ (term s′)
         is = made-same top (term s) (term s′) (λ i h. sym (frame s s′ top i (t .pool) (t .kept-below) h)) u vs ∙ sym (r .is (term s′))
 
-        below : stackOf (term s″) put n′ ≡ left top u vs
+        below : termsAt (term s″) o n′ ≡ left top u vs
         below =
-            stack-same (term s′) (term s″) o put n′
-            (λ j h. rw (other j h) (frame s′ s″ top′ (getD o j 0) (t .ready .pooled .sound) (a .kept-below) (low j h)))
-            ∙ r .stack (term s′)
+            terms-same (term s′) (term s″) o o n′
+            (λ j h. frame s′ s″ top′ (getD o j 0) (t .ready .pooled .sound) (a .kept-below) (low j h)) ∙ r .stack (term s′)
 
-        stack : stackOf (term s″) put (n′ + 1) ≡ made top (term s) u vs ∷ left top u vs
-        stack =
-            let one : n′ + 1 - 1 ≡ n′ = omega arith in
-            rw (one, here, a .is, below, ← is) at (stack-first (term s″) put (n′ + 1) (omega arith))
+        stack : termsAt (term s″) put (n′ + 1) ≡ made top (term s) u vs ∷ left top u vs
+        stack = rw (a .is, below, ← is) at (terms-set (term s″) o n′ root put-inside)
 
         pub putting-next : Putting s top v long start x″ s″ top″ put (n′ + 1) (k + 1)
         putting-next =

@@ -5,11 +5,8 @@ use native.Mathlib.Omega.{arith}
 use mathlib.Core.Path.{_≡_, refl, sym, ap, _∙_}
 use mathlib.Core.Bool.{true, false}
 use mathlib.Core.List.{List}
-use lib.ListN.{length, getD, set, length-set}
-use lib.Seq.{getD-set-same, getD-set-other}
-use borrow.Author.Count.{below-more}
+use lib.ListN.{length, getD, set}
 use Rattle.number.specs.Limits.{workCells}
-use Rattle.meaning.specs.Re.{size}
 use Rattle.meaning.specs.SizeLaws.{size-some, short-size}
 use Rattle.meaning.specs.Limited.{short}
 use Rattle.meaning.specs.Order.{order, also}
@@ -20,11 +17,11 @@ use Rattle.term.specs.declared.Glance.{Glance}
 use Rattle.term.specs.declared.Glance.the-variants.{Told, One, Two}
 use Rattle.term.specs.Cells.{term, Sound}
 use Rattle.term.specs.Nodes.{kindOf, firstOf, secondOf, ordering, Found}
-use Rattle.term.specs.Counts.{mostWaiting, sizes}
-use Rattle.term.specs.Compares.{decides, Only, Both, Glanced, Listed, orders, Comparing}
+use Rattle.term.specs.Places.{termsAt, sizes, ahead, mostWaiting}
+use Rattle.term.specs.Compares.{decides, Only, Both, Glanced, orders, Comparing}
 use Rattle.term.specs.CellLaws.{sound-less}
 use Rattle.term.specs.ReadLaws.{first-below, second-below, star-size, pair-size, found-star, order-star, order-pair}
-use Rattle.term.specs.CountLaws.{sizes-same, sizes-last}
+use Rattle.term.specs.PlaceLaws.{set-there, set-other, listed-less, listed-more, sizes-most, ahead-last, ahead-set}
 
 -- ---- a look at two nodes
 
@@ -77,17 +74,6 @@ also-open Ordering·lt p e = absurd (let z : _≡_ {A = ℕ} 0 1 = cc in omega a
 also-open Ordering·eq p e = refl
 also-open Ordering·gt p e = absurd (let z : _≡_ {A = ℕ} 0 1 = cc in omega arith)
 
-sizes-most : (s l : List ℕ) (top n : ℕ) → n ≤ sizes s l top n
-unfolding sizes
-sizes-most s l top zero = omega arith
-sizes-most s l top (suc n) = omega (arith, size-some (term s (getD l (top + n) 0)), sizes-most s l top n)
-
-sizes-end : (s l : List ℕ) (n : ℕ) → 0 < n → sizes s l 0 n ≡ size (term s (getD l (n - 1) 0)) + sizes s l 0 (n - 1)
-sizes-end s l n h =
-    let all : n - 0 ≡ n = omega arith in
-    let less : n - 1 - 0 ≡ n - 1 = omega arith in
-    rw (all, less) at (sizes-last s l 0 n h)
-
 orders-none : (s l r : List ℕ) (n : ℕ) → n ≡ 0 → orders s l r n ≡ Ordering·eq
 unfolding orders
 orders-none s l r n e = rw (e, orders)
@@ -104,21 +90,6 @@ orders-same s l r l′ r′ zero p q = refl
 orders-same s l r l′ r′ (suc n) p q =
     rw (p n (omega arith), q n (omega arith), orders-same s l r l′ r′ n (λ k h. p k (omega arith)) (λ k h. q k (omega arith)))
 
--- a place that is listed
-module _ (l : List ℕ) (n b : ℕ) (h : n < length l) where
-  set-there : getD (set l n b) n 0 ≡ b
-  set-there = getD-set-same l n b 0 h
-
-  set-other : (k : ℕ) → k < n → getD (set l n b) k 0 ≡ getD l k 0
-  set-other k m = getD-set-other l n k b 0 (λ z. omega arith)
-
-  sizes-set : (s : List ℕ) → sizes s (set l n b) 0 (n + 1) ≡ size (term s b) + sizes s l 0 n
-  sizes-set s =
-      let one : n + 1 - 1 ≡ n = omega arith in
-      let last : sizes s (set l n b) 0 (n + 1) ≡ size (term s b) + sizes s (set l n b) 0 n =
-      rw (one, set-there) at (sizes-end s (set l n b) (n + 1) (omega arith)) in
-      last ∙ ap (λ (m : ℕ). size (term s b) + m) (sizes-same s l (set l n b) 0 n (λ k m. set-other k (omega arith)))
-
 orders-set : (s l r : List ℕ) (n c d : ℕ) → n < length l → n < length r
     → orders s (set l n c) (set r n d) (n + 1) ≡ also (order (term s c) (term s d)) (orders s l r n)
 orders-set s l r n c d h k =
@@ -127,23 +98,11 @@ orders-set s l r n c d h k =
     let same = orders-same s l r (set l n c) (set r n d) n (set-other l n c h) (set-other r n d k) in
     rw (one, set-there l n c h, set-there r n d k, same) at last
 
-listed-less : {l : List ℕ} {n i : ℕ} → Listed l n i → Listed l (n - 1) i
-listed-less t = record { long = t .long; low = λ k h. t .low k (omega arith) }
-
-listed-more : {l : List ℕ} {n i b : ℕ} → Listed l n i → n < mostWaiting → b ≤ i → Listed (set l n b) (n + 1) i
-listed-more {l} {n} {i} {b} t h m =
-    let inside : n < length l = omega (arith, t .long) in
-    record {
-      long = length-set l n b ∙ t .long;
-      low = below-more (λ (k : ℕ). getD (set l n b) k 0 ≤ i) n (λ k o. rw (set-other l n b inside k o) (t .low k o))
-          (rw (set-there l n b inside) m);
-    }
-
 -- ---- the loop
 
 pub comparing-first : {s : List ℕ} {i j : ℕ} {l r : List ℕ} → short (term s i) ≡ true → length l ≡ mostWaiting → length r ≡ mostWaiting
     → Comparing s i j l r 0 i j
-unfolding sizes orders
+unfolding termsAt sizes orders
 comparing-first {s} {i} {j} {l} {r} h p q =
     record {
       left-held = omega arith;
@@ -159,7 +118,7 @@ module _ {s : List ℕ} {i j : ℕ} {l r : List ℕ} {n a b : ℕ} (t : Comparin
   nodes-asked p q = (sound-less (a + 1) p (omega (arith, t .left-held)), sound-less (b + 1) q (omega (arith, t .right-held)))
 
   pub few-wait : n < mostWaiting
-  few-wait = omega (arith, t .few, size-some (term s a), sizes-most s l 0 n)
+  few-wait = omega (arith, t .few, size-some (term s a), sizes-most (term s) l n)
 
   -- the pair at hand is told: it is the last, it decides, or the last pair that waits comes next
   module _ {o : Ordering} (e : o ≡ order (term s a) (term s b)) where
@@ -176,8 +135,8 @@ module _ {s : List ℕ} {i j : ℕ} {l r : List ℕ} {n a b : ℕ} (t : Comparin
     pub last-held : (getD l (n - 1) 0 ≤ i) × (getD r (n - 1) 0 ≤ j)
     last-held = (t .left .low (n - 1) (omega arith), t .right .low (n - 1) (omega arith))
 
-    pub last-less : size (term s (getD l (n - 1) 0)) + sizes s l 0 (n - 1) < size (term s a) + sizes s l 0 n
-    last-less = omega (arith, sizes-end s l n (omega arith), size-some (term s a))
+    pub last-less : ahead s l (n - 1) (getD l (n - 1) 0) < ahead s l n a
+    last-less = ahead-last s l n a (omega arith)
 
     pub last-next : {o : Ordering} → o ≡ order (term s a) (term s b) → decides o ≡ false
         → Comparing s i j l r (n - 1) (getD l (n - 1) 0) (getD r (n - 1) 0)
@@ -209,8 +168,8 @@ module _ {s : List ℕ} {i j : ℕ} {l r : List ℕ} {n a b : ℕ} (t : Comparin
     pub two-fit : Sound s (i + 1) → Sound s (j + 1) → (e < workCells) × (f < workCells)
     two-fit p q = (omega (arith, p .room, p .small, t .left-held, g .second-left), omega (arith, q .room, q .small, t .right-held, g .second-right))
 
-    pub two-less : size (term s c) + sizes s (set l n e) 0 (n + 1) < size (term s a) + sizes s l 0 n
-    two-less = omega (arith, g .smaller, sizes-set l n e (omega (arith, few-wait, t .left .long)) s)
+    pub two-less : ahead s (set l n e) (n + 1) c < ahead s l n a
+    two-less = ahead-set s l n a c e (omega (arith, few-wait, t .left .long)) (g .smaller)
 
     pub two-next : Comparing s i j (set l n e) (set r n f) (n + 1) c d
     two-next =

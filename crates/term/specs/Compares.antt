@@ -4,7 +4,7 @@ use Prim.Native.Nat.{ℕ, zero, suc, _+_, _<_, _≤_, Ordering, Ordering·lt, Or
 use mathlib.Core.Path.{_≡_}
 use mathlib.Core.Bool.{Bool, true, false}
 use mathlib.Core.List.{List}
-use lib.ListN.{length, getD}
+use lib.ListN.{getD}
 use Rattle.number.specs.Limits.{treeNodes}
 use Rattle.meaning.specs.Re.{size}
 use Rattle.meaning.specs.Order.{order, also}
@@ -12,7 +12,7 @@ use Rattle.term.specs.declared.Glance.{Glance}
 use Rattle.term.specs.declared.Glance.the-variants.{Told, One, Two}
 use Rattle.term.specs.Cells.{term}
 use Rattle.term.specs.Nodes.{ordering}
-use Rattle.term.specs.Counts.{mostWaiting, sizes}
+use Rattle.term.specs.Places.{ahead, Listed}
 
 -- whether a comparison found a difference
 abbrev pub decides : Ordering → Bool
@@ -44,11 +44,6 @@ Shown s i j (Two a b c d) = Both s i j a b c d
 pub record Glanced (s : List ℕ) (i j : ℕ) (r : Glance) : Type 0 where
   pub shown : Shown s i j r
 
--- the first n places of a list are used, and no cell in them is above i
-pub record Listed (l : List ℕ) (n i : ℕ) : Type 0 where
-  pub long : length l ≡ mostWaiting
-  pub low : (k : ℕ) → k < n → getD l k 0 ≤ i
-
 -- the order of the pairs in the first n places of two lists, the last first
 unfoldable pub orders : List ℕ → List ℕ → List ℕ → ℕ → Ordering
 orders s l r zero = Ordering·eq
@@ -61,5 +56,5 @@ pub record Comparing (s : List ℕ) (i j : ℕ) (l r : List ℕ) (n a b : ℕ) :
   pub right-held : b ≤ j
   pub left : Listed l n i
   pub right : Listed r n j
-  pub few : n + size (term s a) + sizes s l 0 n ≤ treeNodes
+  pub few : n + ahead s l n a ≤ treeNodes
   pub is : order (term s i) (term s j) ≡ also (order (term s a) (term s b)) (orders s l r n)

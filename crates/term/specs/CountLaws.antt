@@ -1,12 +1,12 @@
 -- Laws for counting by a list, one for each place of the loop: how it begins, what a turn makes of it, and what each of its ends tells.
 -- In a turn one node is counted off: a leaf makes way for the last place that waits, anything else for its children.
-use Prim.Native.Nat.{ℕ, zero, suc, _+_, _-_, _<_, _≤_}
+use Prim.Native.Nat.{ℕ, _+_, _-_, _<_, _≤_}
 use native.Mathlib.Omega.{arith}
 use mathlib.Core.Path.{_≡_, refl, sym, ap, _∙_}
 use mathlib.Core.Bool.{true, false}
 use mathlib.Core.List.{List}
-use lib.ListN.{length, getD, set, length-set}
-use lib.Seq.{getD-set-same, getD-set-other}
+use lib.ListN.{length, getD, set, drop, length-set, length-drop}
+use lib.Seq.{getD-set-same, getD-set-other, getD-drop, drop-set-add}
 use borrow.Author.Count.{below-more}
 use borrow.Author.Tests.{le-leb, lt-leb}
 use Rattle.number.specs.Limits.{treeNodes}
@@ -15,28 +15,33 @@ use Rattle.meaning.specs.SizeLaws.{size-some}
 use Rattle.term.specs.declared.Term.{Term}
 use Rattle.term.specs.Cells.{nodeOf, term}
 use Rattle.term.specs.Nodes.{kindOf, firstOf, secondOf, Found}
-use Rattle.term.specs.Counts.{Countable, ShortTold, sizes, Counting}
+use Rattle.term.specs.Places.{termsAt, sizes}
+use Rattle.term.specs.Counts.{Countable, ShortTold, Counting}
 use Rattle.term.specs.CellLaws.{found}
 use Rattle.term.specs.ReadLaws.{first-below, second-below, leaf-size, star-size, pair-size, found-star}
+use Rattle.term.specs.PlaceLaws.{sizes-last, sizes-set}
 
--- ---- the sizes that wait
+-- ---- the sizes that wait, in the cells from top to end
 
-pub sizes-same : (s l l′ : List ℕ) (top n : ℕ) → ((j : ℕ) → j < top + n → getD l′ j 0 ≡ getD l j 0) → sizes s l′ top n ≡ sizes s l top n
-unfolding sizes
-sizes-same s l l′ top zero same = refl
-sizes-same s l l′ top (suc n) same = rw (same (top + n) (omega arith), sizes-same s l l′ top n (λ j h. same j (omega arith)))
+module _ (s l : List ℕ) (top end : ℕ) where
+  sizes-none : end ≡ top → sizes (termsAt (term s) (drop top l) (end - top)) ≡ 0
+  unfolding termsAt sizes
+  sizes-none e = let none : end - top ≡ 0 = omega arith in rw (none, termsAt, sizes)
 
-sizes-none : (s l : List ℕ) (top end : ℕ) → end ≡ top → sizes s l top (end - top) ≡ 0
-unfolding sizes
-sizes-none s l top end e = let none : end - top ≡ 0 = omega arith in rw (none, sizes)
+  sizes-end : top < end → sizes (termsAt (term s) (drop top l) (end - top))
+      ≡ size (term s (getD l (end - 1) 0)) + sizes (termsAt (term s) (drop top l) (end - 1 - top))
+  sizes-end h =
+      let less : end - top - 1 ≡ end - 1 - top = omega arith in
+      let here : top + (end - 1 - top) ≡ end - 1 = omega arith in
+      rw (less, getD-drop top l (end - 1 - top) 0, here) at (sizes-last (term s) (drop top l) (end - top) (omega arith))
 
-pub sizes-last : (s l : List ℕ) (top end : ℕ) → top < end
-    → sizes s l top (end - top) ≡ size (term s (getD l (end - 1) 0)) + sizes s l top (end - 1 - top)
-unfolding sizes
-sizes-last s l top end h =
-    let one : end - top ≡ suc (end - 1 - top) = omega arith in
-    let here : top + (end - 1 - top) ≡ end - 1 = omega arith in
-    rw (one, sizes, here)
+  sizes-listed : (b : ℕ) → top ≤ end → end < length l → sizes (termsAt (term s) (drop top (set l end b)) (end + 1 - top))
+      ≡ size (term s b) + sizes (termsAt (term s) (drop top l) (end - top))
+  sizes-listed b h k =
+      let one : end + 1 - top ≡ end - top + 1 = omega arith in
+      let here : top + (end - top) ≡ end = omega arith in
+      let listed : drop top (set l end b) ≡ set (drop top l) (end - top) b = rw here at (drop-set-add top l (end - top) b) in
+      rw (one, listed) (sizes-set (term s) (drop top l) (end - top) b (omega (arith, length-drop top l)))
 
 -- ---- the loop
 
@@ -93,7 +98,7 @@ module _ {s : List ℕ} {top i : ℕ} (c : Countable s top i) where
                 few = omega (arith, t .few);
                 wasted = t .wasted;
                 low = λ j h k. t .low j h (omega arith);
-                counted = omega (arith, t .counted, sizes-last s l top end waits, leaf-size s at u here leaf);
+                counted = omega (arith, t .counted, sizes-end s l top end waits, leaf-size s at u here leaf);
               }
 
       pub star-next : {a : ℕ} → kindOf u ≡ 5 → a ≡ firstOf u → Counting s top i l a end (left - 1)
@@ -117,10 +122,6 @@ module _ {s : List ℕ} {top i : ℕ} (c : Countable s top i) where
       pair-next {a} {b} k n p q =
           let there : getD (set l end b) end 0 ≡ b = getD-set-same l end b 0 end-inside in
           let other : (j : ℕ) → (j ≡ end → ⊥) → getD (set l end b) j 0 ≡ getD l j 0 = λ j d. getD-set-other l end j b 0 d in
-          let same = sizes-same s l (set l end b) top (end - top) (λ j m. other j (λ z. omega (arith, t .up))) in
-          let one : end + 1 - 1 ≡ end = omega arith in
-          let last : sizes s (set l end b) top (end + 1 - top) ≡ size (term s b) + sizes s (set l end b) top (end - top) =
-          rw (one, there) at (sizes-last s (set l end b) top (end + 1) (omega (arith, t .up))) in
           record {
             held = omega (arith, first-below here k, p, t .held);
             up = omega (arith, t .up);
@@ -133,5 +134,5 @@ module _ {s : List ℕ} {top i : ℕ} (c : Countable s top i) where
             low = λ j h m.
                 below-more (λ (x : ℕ). top ≤ x → getD (set l end b) x 0 < top) end (λ x o g. rw (other x (λ z. omega arith)) (t .low x g o))
                 (λ _. rw there (omega (arith, second-below here k n, q, t .held))) j m h;
-            counted = omega (arith, t .counted, last, same, pair-size s at u here k n a b p q);
+            counted = omega (arith, t .counted, sizes-listed s l top end b (t .up) end-inside, pair-size s at u here k n a b p q);
           }

@@ -9,8 +9,9 @@ use borrow.Author.Needs.{needs}
 use Rattle.meaning.specs.Limited.{short}
 use Rattle.term.specs.Cells.{nodeOf, term, Sound}
 use Rattle.term.specs.Nodes.{kindOf, Found}
+use Rattle.term.specs.Places.{ahead}
 use Rattle.term.specs.CellLaws.{found}
-use Rattle.derivative.specs.Waiting.{leafEdge, ahead, Passing}
+use Rattle.derivative.specs.Waiting.{leafEdge, Passing}
 use Rattle.derivative.specs.EdgeLaws as laws
 use Rattle.derivative.proofs.next_edge.Statement.{statement}
 use Rattle.derivative.proofs.next_edge.Tie as tie

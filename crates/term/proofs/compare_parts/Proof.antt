@@ -1,15 +1,14 @@
 -- `term::compare_parts` meets its contract: one law a way through a turn, and one for each end of the loop.
 -- The measure is the number of nodes of the first term that are still to be seen. Assumes nothing.
-use Prim.Native.Nat.{ℕ, _+_}
+use Prim.Native.Nat.{ℕ}
 use native.Mathlib.Omega.{arith}
 use mathlib.Core.Path.{_≡_, refl, sym, _∙_}
 use mathlib.Core.List.{List}
 use borrow.Author.Needs.{needs}
-use Rattle.meaning.specs.Re.{size}
 use Rattle.meaning.specs.Order.{order}
 use Rattle.term.specs.Cells.{term}
 use Rattle.term.specs.Nodes.{ordering}
-use Rattle.term.specs.Counts.{sizes}
+use Rattle.term.specs.Places.{ahead}
 use Rattle.term.specs.Compares.{Only, Both, Comparing}
 use Rattle.term.specs.CompareLaws.{told, told-one, told-two, comparing-first, nodes-asked, few-wait, told-last, told-apart, last-inside, last-held, last-less, last-next, one-next, two-fit, two-less, two-next}
 use Rattle.term.proofs.compare_parts.Statement.{statement}
@@ -19,7 +18,7 @@ abbrev Inv-loop : tie.InvT-loop
 Inv-loop cells i j left₀ right₀ waiting₀ a₀ b₀ left right waiting a b = Comparing cells i j left right waiting a b
 
 abbrev μ-loop : tie.MeasureT-loop
-μ-loop cells i j left₀ right₀ waiting₀ a₀ b₀ left right waiting a b = size (term cells a) + sizes cells left 0 waiting
+μ-loop cells i j left₀ right₀ waiting₀ a₀ b₀ left right waiting a b = ahead cells left waiting a
 
 -- what the pair at hand told, by the kind of the answer
 module _ (c : tie.After-glance Inv-loop μ-loop) where
