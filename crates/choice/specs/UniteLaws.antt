@@ -55,7 +55,7 @@ module _ {s : List ℕ} {top a b : ℕ} (l : Unites s top a b) where
       }
 
   module _ {h x y : ℕ} (t : Leads s a b h x y) where
-    pub more-asks : Unites s top x y
+    more-asks : Unites s top x y
     more-asks =
         let low = t .low top (l .choices .left) (l .choices .right) in
         record {

@@ -103,7 +103,7 @@ module _ (kinds : ℕ → ℕ) (s : ℕ) (labels targets : List ℕ) (text : Tex
 
 -- ---- something is left
 
-pub refused-some : (r : Refusal) → 0 < length (refusedLine r)
+refused-some : (r : Refusal) → 0 < length (refusedLine r)
 unfolding refusedLine
 refused-some r = simp length-append (omega arith)
 

@@ -1,6 +1,6 @@
 -- Laws of decimal digits: a number's digits by those of its tenth part, and how many there are, so that room for a line can be planned.
 -- The code finds them from the last to the first; what it has found on the way is `Found`.
-use Prim.Native.Nat.{ℕ, zero, suc, _+_, _-_, _*_, _/_, _%_, _^_, _<_, _≤_}
+use Prim.Native.Nat.{ℕ, zero, suc, _+_, _-_, _/_, _%_, _^_, _<_, _≤_}
 use native.Mathlib.Nat.{pow-suc, div-lt-iff-lt-mul}
 use native.Mathlib.Decide.{decLt}
 use native.Mathlib.Omega.{arith}
@@ -41,10 +41,10 @@ decimal-high n h =
     turn ∙ simp (le-ltb n 10 h, rest)
 
 -- one digit more than the tenth part has; at least one
-pub decimal-step : (n : ℕ) → 10 ≤ n → length (decimal n) ≡ length (decimal (n / 10)) + 1
+decimal-step : (n : ℕ) → 10 ≤ n → length (decimal n) ≡ length (decimal (n / 10)) + 1
 decimal-step n h = rw (decimal-high n h) (simp length-append)
 
-pub decimal-some : (n : ℕ) → n < 10 → length (decimal n) ≡ 1
+decimal-some : (n : ℕ) → n < 10 → length (decimal n) ≡ 1
 decimal-some n h = rw (decimal-low n h) refl
 
 -- so many digits hold every number below that power of ten

@@ -16,7 +16,7 @@ abbrev pub Next : ℕ → ℕ → Handed → Type 0
 Next before more (All n) = n ≡ before + more
 Next before more (Less n) = n ≡ before
 
--- the number of all bytes that were printed is the whole's length where every write was whole, and less where one failed
+-- an answer for all tells the whole's length, and one for less a smaller number
 abbrev pub Counts : List ℕ → Handed → Type 0
 Counts whole (All n) = n ≡ length whole
 Counts whole (Less n) = n < length whole
