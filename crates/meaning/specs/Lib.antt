@@ -1,6 +1,7 @@
 -- What word rules mean. Definitions, in reading order: Re, Lang, Means, Order, Normal, Derive, Limited, Rules, Words, Sample, Clauses, Forms, Lengths, Shape, Edges.
 -- The other files prove things of these; Main gathers the theorems that are bought.
 pub mod Re
+pub mod PartLaws
 pub mod Lang
 pub mod LangLaws
 pub mod Means

@@ -1,8 +1,8 @@
 -- Regular expressions, as source document 000 (1.3.3) has them, with a range of bytes for a single letter.
--- Also a text, the size of an expression as a tree, and the tests that the normal form asks.
+-- Also a text, the parts of an expression and its size as a tree, and the tests that the normal form asks.
 use Prim.Native.Nat.{ℕ, _+_}
 use mathlib.Core.Bool.{Bool, true, false}
-use mathlib.Core.List.{List}
+use mathlib.Core.List.{List, [], _∷_}
 
 -- a text is a list of bytes
 abbrev pub Text : Type 0
@@ -16,6 +16,15 @@ pub data Re : Type 0 where
   Cat : Re → Re → Re
   Alt : Re → Re → Re
   Star : Re → Re
+
+-- its parts, from left to right
+abbrev pub parts : Re → List Re
+parts Nothing = []
+parts Empty = []
+parts (Range lo hi) = []
+parts (Cat a b) = a ∷ b ∷ []
+parts (Alt a b) = a ∷ b ∷ []
+parts (Star a) = a ∷ []
 
 -- the number of its tree's nodes
 unfoldable pub size : Re → ℕ

@@ -1,2 +1,8 @@
-// What word rules mean: definitions and theorems only, all of them in specs/.
+// What word rules mean: definitions and theorems, all of them in specs/, and the type that they share with the code above.
 // Code of the layers above is proved against them; this crate runs nothing.
+
+// How members are joined: one after another, or as a choice.
+pub enum Join {
+    Then,
+    Or,
+}

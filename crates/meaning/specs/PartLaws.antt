@@ -1,0 +1,39 @@
+-- What goes by the parts of an expression, whatever its kind: an induction, the size, and which of its parts are smaller.
+-- A kind more is a line more here, and none in what is proved by these.
+use Prim.Native.Nat.{ℕ, _+_, _≤_}
+use native.Mathlib.Omega.{arith}
+use mathlib.Core.Path.{_≡_, refl}
+use mathlib.Core.List.{List, [], _∷_}
+use Rattle.meaning.specs.Re.{Re, parts, size}
+use Rattle.meaning.specs.Re.Re.{Nothing, Empty, Range, Cat, Alt, Star}
+
+-- P holds of all of them
+abbrev pub All : (Re → Type 0) → List Re → Type 0
+All P [] = Unit
+All P (r ∷ rs) = P r × All P rs
+
+-- what holds of an expression where it holds of its parts, holds of every one
+pub by-parts : (P : Re → Type 0) → ((r : Re) → All P (parts r) → P r) → (r : Re) → P r
+by-parts P f Nothing = f Nothing tt
+by-parts P f Empty = f Empty tt
+by-parts P f (Range lo hi) = f (Range lo hi) tt
+by-parts P f (Cat a b) = f (Cat a b) (by-parts P f a, (by-parts P f b, tt))
+by-parts P f (Alt a b) = f (Alt a b) (by-parts P f a, (by-parts P f b, tt))
+by-parts P f (Star a) = f (Star a) (by-parts P f a, tt)
+
+-- how many nodes expressions have together
+unfoldable pub sizes : List Re → ℕ
+sizes [] = 0
+sizes (r ∷ rs) = size r + sizes rs
+
+pub size-parts : (r : Re) → size r ≡ 1 + sizes (parts r)
+unfolding size sizes
+size-parts Nothing = refl
+size-parts Empty = refl
+size-parts (Range lo hi) = refl
+size-parts (Cat a b) = omega arith
+size-parts (Alt a b) = omega arith
+size-parts (Star a) = omega arith
+
+pub size-some : (r : Re) → 1 ≤ size r
+size-some r = omega (arith, size-parts r)
