@@ -64,23 +64,23 @@ normalFit (Star a) = do
   na ← normalFit a
   fit (star na)
 
--- the results on the way to a derivative, its own last
+-- the results on the way to a derivative: its own, and those of the parts that are worked out for it
 unfoldable pub derivResults : ℕ → Re → List Re
 derivResults c Nothing = deriv c Nothing ∷ []
 derivResults c Empty = deriv c Empty ∷ []
 derivResults c (Range lo hi) = deriv c (Range lo hi) ∷ []
-derivResults c (Cat a b) = derivResults c a ++ (cat (deriv c a) b ∷ cond (nullable a) (derivResults c b ++ (deriv c (Cat a b) ∷ [])) [])
-derivResults c (Alt a b) = derivResults c a ++ (derivResults c b ++ (deriv c (Alt a b) ∷ []))
-derivResults c (Star a) = derivResults c a ++ (deriv c (Star a) ∷ [])
+derivResults c (Cat a b) = deriv c (Cat a b) ∷ (derivResults c a ++ cond (nullable a) (cat (deriv c a) b ∷ derivResults c b) [])
+derivResults c (Alt a b) = deriv c (Alt a b) ∷ (derivResults c a ++ derivResults c b)
+derivResults c (Star a) = deriv c (Star a) ∷ derivResults c a
 
--- the results on the way to a normal form, its own last
+-- the results on the way to a normal form: its own, and those of its parts
 unfoldable pub normalResults : Re → List Re
-normalResults Nothing = Nothing ∷ []
-normalResults Empty = Empty ∷ []
-normalResults (Range lo hi) = Range lo hi ∷ []
-normalResults (Cat a b) = normalResults a ++ (normalResults b ++ (normal (Cat a b) ∷ []))
-normalResults (Alt a b) = normalResults a ++ (normalResults b ++ (normal (Alt a b) ∷ []))
-normalResults (Star a) = normalResults a ++ (normal (Star a) ∷ [])
+normalResults Nothing = normal Nothing ∷ []
+normalResults Empty = normal Empty ∷ []
+normalResults (Range lo hi) = normal (Range lo hi) ∷ []
+normalResults (Cat a b) = normal (Cat a b) ∷ (normalResults a ++ normalResults b)
+normalResults (Alt a b) = normal (Alt a b) ∷ (normalResults a ++ normalResults b)
+normalResults (Star a) = normal (Star a) ∷ normalResults a
 
 -- each of them is short enough
 unfoldable pub allShort : List Re → Bool

@@ -3,7 +3,7 @@
 use Prim.Native.Nat.{ℕ}
 use mathlib.Core.Path.{_≡_, refl, sym, ap, _∙_}
 use mathlib.Core.Bool.{Bool, true, false, cond, _&&_}
-use mathlib.Core.List.{List, [], _∷_, _++_}
+use mathlib.Core.List.{List, [], _∷_, _++_, append-nil}
 use mathlib.Core.Logic.{_↔_}
 use native.Mathlib.Omega.{arith}
 use lib.Dec.{leb}
@@ -23,45 +23,45 @@ abbrev pub allowed : Bool → Re → Fit
 allowed b r = cond b (Fits r) Long
 
 -- one step after another: both tests must allow it
-step-allowed : (b : Bool) (r : Re) (f : Re → Fit) (d : Bool) (s : Re) → f r ≡ allowed d s → (allowed b r >>= f) ≡ allowed (b && d) s
-step-allowed true r f d s e = e
-step-allowed false r f d s e = refl
+step-allowed : {m : Fit} (b : Bool) (r : Re) (f : Re → Fit) (d : Bool) (s : Re) → m ≡ allowed b r → f r ≡ allowed d s
+    → (m >>= f) ≡ allowed (b && d) s
+step-allowed true r f d s p e = rw p e
+step-allowed false r f d s p e = rw p
+
+and-assoc : (a b c : Bool) → (a && (b && c)) ≡ ((a && b) && c)
+and-assoc true b c = refl
+and-assoc false b c = refl
 
 all-append : (xs ys : List Re) → allShort (xs ++ ys) ≡ (allShort xs && allShort ys)
 unfolding allShort
 all-append [] ys = refl
-all-append (x ∷ xs) ys = go (short x) (all-append xs ys)
-  where
-    go : (b : Bool) → allShort (xs ++ ys) ≡ (allShort xs && allShort ys) → (b && allShort (xs ++ ys)) ≡ ((b && allShort xs) && allShort ys)
-    go true e = e
-    go false e = refl
+all-append (x ∷ xs) ys = ap (λ (b : Bool). short x && b) (all-append xs ys) ∙ and-assoc (short x) (allShort xs) (allShort ys)
 
-all-one : (r : Re) → allShort (r ∷ []) ≡ short r
+-- its own result is tested last
+all-last : (xs : List Re) (r : Re) → allShort (r ∷ xs) ≡ (allShort xs && short r)
 unfolding allShort
-all-one r = go (short r)
+all-last xs r = go (short r) (allShort xs)
   where
-    go : (b : Bool) → (b && true) ≡ b
-    go true = refl
-    go false = refl
+    go : (a b : Bool) → (a && b) ≡ (b && a)
+    go true true = refl
+    go true false = refl
+    go false true = refl
+    go false false = refl
 
--- results of a part, then one more; of two parts, then one more
-one-more : (xs : List Re) (r : Re) → allShort (xs ++ (r ∷ [])) ≡ (allShort xs && short r)
-one-more xs r = all-append xs (r ∷ []) ∙ ap (λ (b : Bool). allShort xs && b) (all-one r)
-
-two-more : (xs ys : List Re) (r : Re) → allShort (xs ++ (ys ++ (r ∷ []))) ≡ (allShort xs && (allShort ys && short r))
-two-more xs ys r = all-append xs (ys ++ (r ∷ [])) ∙ ap (λ (b : Bool). allShort xs && b) (one-more ys r)
+all-two : (xs ys : List Re) (r : Re) → allShort (r ∷ (xs ++ ys)) ≡ (allShort xs && (allShort ys && short r))
+all-two xs ys r = all-last (xs ++ ys) r ∙ ap (λ (b : Bool). b && short r) (all-append xs ys) ∙ sym (and-assoc (allShort xs) (allShort ys) (short r))
 
 -- one part, then its result; two parts, then theirs
 part-one : {m : Fit} (xs : List Re) (x : Re) (g : Re → Re) → m ≡ allowed (allShort xs) x
-    → (m >>= λ y. fit (g y)) ≡ allowed (allShort (xs ++ (g x ∷ []))) (g x)
-part-one xs x g p = rw (p, one-more xs (g x)) (step-allowed (allShort xs) x (λ y. fit (g y)) (short (g x)) (g x) refl)
+    → (m >>= λ y. fit (g y)) ≡ allowed (allShort (g x ∷ xs)) (g x)
+part-one xs x g p = rw (all-last xs (g x)) (step-allowed (allShort xs) x (λ y. fit (g y)) (short (g x)) (g x) p refl)
 
 part-two : {m n : Fit} (xs ys : List Re) (x y : Re) (g : Re → Re → Re) → m ≡ allowed (allShort xs) x → n ≡ allowed (allShort ys) y
-    → (m >>= λ v. n >>= λ w. fit (g v w)) ≡ allowed (allShort (xs ++ (ys ++ (g x y ∷ [])))) (g x y)
-part-two xs ys x y g p q =
-    rw (p, q, two-more xs ys (g x y))
-    (step-allowed (allShort xs) x (λ v. allowed (allShort ys) y >>= λ w. fit (g v w)) (allShort ys && short (g x y)) (g x y)
-    (step-allowed (allShort ys) y (λ w. fit (g x w)) (short (g x y)) (g x y) refl))
+    → (m >>= λ v. n >>= λ w. fit (g v w)) ≡ allowed (allShort (g x y ∷ (xs ++ ys))) (g x y)
+part-two {m} {n} xs ys x y g p q =
+    rw (all-two xs ys (g x y))
+    (step-allowed (allShort xs) x (λ v. n >>= λ w. fit (g v w)) (allShort ys && short (g x y)) (g x y) p
+    (step-allowed (allShort ys) y (λ w. fit (g x w)) (short (g x y)) (g x y) q refl))
 
 -- the derivative of a range is a leaf
 range-short : (b : Bool) → Fits (cond b Empty Nothing) ≡ allowed (short (cond b Empty Nothing) && true) (cond b Empty Nothing)
@@ -69,23 +69,24 @@ unfolding size
 range-short true = refl
 range-short false = refl
 
--- a Cat whose first side matches the empty text: both sides, one after the other
+-- a Cat whose first side matches the empty text: both sides, one after the other; and one whose first side does not
 cat-null : {m n : Fit} (xs ys : List Re) (x b y : Re) → m ≡ allowed (allShort xs) x → n ≡ allowed (allShort ys) y
     → (m >>= λ da. fit (cat da b) >>= λ l. n >>= λ db. fit (alt l db))
-    ≡ allowed (allShort (xs ++ (cat x b ∷ (ys ++ (alt (cat x b) y ∷ []))))) (alt (cat x b) y)
+    ≡ allowed (allShort (alt (cat x b) y ∷ (xs ++ (cat x b ∷ ys)))) (alt (cat x b) y)
 unfolding allShort
-cat-null xs ys x b y p q =
+cat-null {m} {n} xs ys x b y p q =
     let l = cat x b in
     let r = alt l y in
-    rw (p, q, all-append xs (l ∷ (ys ++ (r ∷ []))), one-more ys r)
-    (step-allowed (allShort xs) x (λ da. fit (cat da b) >>= λ l. allowed (allShort ys) y >>= λ db. fit (alt l db)) (short l && (allShort ys && short r)) r
-    (step-allowed (short l) l (λ l. allowed (allShort ys) y >>= λ db. fit (alt l db)) (allShort ys && short r) r
-    (step-allowed (allShort ys) y (λ db. fit (alt l db)) (short r) r refl)))
+    rw (all-two xs (l ∷ ys) r, ← and-assoc (short l) (allShort ys) (short r))
+    (step-allowed (allShort xs) x (λ da. fit (cat da b) >>= λ l. n >>= λ db. fit (alt l db)) (short l && (allShort ys && short r)) r p
+    (step-allowed (short l) l (λ l. n >>= λ db. fit (alt l db)) (allShort ys && short r) r refl
+    (step-allowed (allShort ys) y (λ db. fit (alt l db)) (short r) r q refl)))
 
 cat-full : {m : Fit} (xs : List Re) (x b : Re) → m ≡ allowed (allShort xs) x
-    → (m >>= λ da. fit (cat da b) >>= Fits) ≡ allowed (allShort (xs ++ (cat x b ∷ []))) (cat x b)
+    → (m >>= λ da. fit (cat da b) >>= Fits) ≡ allowed (allShort (cat x b ∷ (xs ++ []))) (cat x b)
 cat-full xs x b p =
-    rw (p, one-more xs (cat x b)) (step-allowed (allShort xs) x (λ da. fit (cat da b) >>= Fits) (short (cat x b)) (cat x b) (same (short (cat x b))))
+    rw (append-nil xs, all-last xs (cat x b))
+    (step-allowed (allShort xs) x (λ da. fit (cat da b) >>= Fits) (short (cat x b)) (cat x b) p (same (short (cat x b))))
   where
     same : (d : Bool) → (allowed d (cat x b) >>= Fits) ≡ allowed d (cat x b)
     same true = refl

@@ -13,10 +13,10 @@ use lib.Seq.{take-suc, take-suc-set, getD-set-other}
 use Rattle.number.specs.Limits.{rules, treeNodes, pool}
 use Rattle.meaning.specs.Re.{Re, size}
 use Rattle.meaning.specs.Re.Re.{Nothing, Empty, Range, Cat, Alt, Star}
-use Rattle.meaning.specs.Derive.{nullable, deriv}
+use Rattle.meaning.specs.Derive.{deriv}
 use Rattle.meaning.specs.Limited.{Fit, short, derivFit, derivResults, Over}
 use Rattle.meaning.specs.Limited.Fit.{Long, Fits}
-use Rattle.meaning.specs.Limited.Over.{here, later}
+use Rattle.meaning.specs.Limited.Over.{here}
 use Rattle.meaning.specs.LimitedLaws.{deriv-long, deriv-short}
 use Rattle.meaning.specs.Shape.{InShape}
 use Rattle.meaning.specs.ShapeLaws.{shape-deriv}
@@ -47,23 +47,15 @@ use Rattle.vector.specs.MemoryLaws.{vector-same-cells}
 
 -- ---- a derivative that fits is short
 
-over-behind : (xs ys : List Re) → Over ys → Over (xs ++ ys)
-over-behind [] ys o = o
-over-behind (x ∷ xs) ys o = later (over-behind xs ys o)
-
 -- the derivative is itself among the results on the way
-last-over : (c : ℕ) (r : Re) → treeNodes < size (deriv c r) → Over (derivResults c r)
-unfolding derivResults deriv
-last-over c Nothing h = here h
-last-over c Empty h = here h
-last-over c (Range lo hi) h = here h
-last-over c (Cat a b) h = go (nullable a) refl
-  where
-    go : (n : Bool) → nullable a ≡ n → Over (derivResults c (Cat a b))
-    go true e = rw (derivResults, e) (over-behind (derivResults c a) _ (later (over-behind (derivResults c b) _ (here h))))
-    go false e = rw (derivResults, e) (over-behind (derivResults c a) _ (here (rw (deriv, e) at h)))
-last-over c (Alt a b) h = over-behind (derivResults c a) _ (over-behind (derivResults c b) _ (here h))
-last-over c (Star a) h = over-behind (derivResults c a) _ (here h)
+own-over : (c : ℕ) (r : Re) → treeNodes < size (deriv c r) → Over (derivResults c r)
+unfolding derivResults
+own-over c Nothing h = here h
+own-over c Empty h = here h
+own-over c (Range lo hi) h = here h
+own-over c (Cat a b) h = here h
+own-over c (Alt a b) h = here h
+own-over c (Star a) h = here h
 
 pub fits-short : (c : ℕ) (r x : Re) → derivFit c r ≡ Fits x → short x ≡ true
 fits-short c r x e = go (short x) refl
@@ -72,7 +64,7 @@ fits-short c r x e = go (short x) refl
     go true d = d
     go false d =
         let h : treeNodes < size (deriv c r) = rw (deriv-short c r x e) at (leb-false (size x) treeNodes d) in
-        let l : derivFit c r ≡ Long = deriv-long c r .1 (last-over c r h) in
+        let l : derivFit c r ≡ Long = deriv-long c r .1 (own-over c r h) in
         absurd (let z : _≡_ {A = ℕ} 0 1 = cc in omega arith)
 
 -- ---- parts of a term in shape
