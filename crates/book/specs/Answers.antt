@@ -5,7 +5,7 @@ use mathlib.Core.Bool.{cond}
 use mathlib.Core.List.{List}
 use lib.Dec.{ltb}
 use lib.ListN.{length}
-use Rattle.number.specs.Limits.{version, lastVersion, rules, kinds, nodes}
+use Rattle.number.specs.Limits.{firstVersion, lastVersion, rules, kinds, nodes}
 use Rattle.number.specs.declared.Refusal.{Refusal}
 use Rattle.number.specs.declared.Refusal.the-variants.{Input}
 use Rattle.number.specs.declared.Taken.{Taken}
@@ -43,35 +43,35 @@ nodeRefusal (At n next) = Input
 nodeRefusal (NoNode r) = r
 
 module _ (file : List ℕ) where
-  -- a rule's kind, its node count and the place of its first node
-  unfoldable pub readHead : Reader RulePlace
-  readHead = do
+  -- in a book of version v: a rule's kind, its node count and the place of its first node
+  unfoldable pub readHead : ℕ → Reader RulePlace
+  readHead v = do
     kind ← field file 0 kinds
     count ← field file 1 nodes
     first ← here
-    answer (record { kind = kind; nodes = count; at = first })
+    answer (record { version = v; kind = kind; nodes = count; at = first })
 
   -- past k rules
   unfoldable pub findRule : ℕ → ℕ → Reader RulePlace
-  findRule v zero = readHead
+  findRule v zero = readHead v
   findRule v (suc k) = do
-    head ← readHead
-    passed ← readNodes file v (head .nodes) 0
+    head ← readHead v
+    passed ← readNodes file v (head .nodes)
     findRule v k
 
   -- in a whole file, past the version and the rule count
   unfoldable pub findFrom : ℕ → Reader RulePlace
   findFrom rule = do
-    v ← field file version lastVersion
+    v ← field file firstVersion lastVersion
     n ← field file 1 rules
     findRule v rule
 
 abbrev pub nowhere : RulePlace
-nowhere = record { kind = 0; nodes = 0; at = 0 }
+nowhere = record { version = 0; kind = 0; nodes = 0; at = 0 }
 
 -- a rule of a book, and where it stands in the book's file
 abbrev pub placeAt : Book → ℕ → RulePlace
-placeAt b i = record { kind = ruleOf b i .kind; nodes = length (ruleOf b i .nodes); at = nodesAt b i }
+placeAt b i = record { version = b .version; kind = ruleOf b i .kind; nodes = length (ruleOf b i .nodes); at = nodesAt b i }
 
 -- of no such rule, and of a refused book, nothing
 abbrev pub placeIn : Answer Book → ℕ → RulePlace

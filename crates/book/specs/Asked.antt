@@ -8,8 +8,8 @@ use Rattle.number.specs.declared.Refusal.the-variants.{Short, Tail}
 use Rattle.number.specs.Numbers.{due, several, readNumber, within, field}
 use Rattle.number.specs.Refused.{Outcome}
 use Rattle.number.specs.Refused.Outcome.{gives, refuses}
-use Rattle.book.specs.Book.{total}
-use Rattle.book.specs.Reads.{readAfter, readNode, readNodes, readRules, book}
+use Rattle.book.specs.Book.{allowed, total}
+use Rattle.book.specs.Reads.{readRange, readEither, readAfter, readNode, moreNodes, moreRules, book}
 use Rattle.book.specs.Calls.{Size, checkOf, Told, kindOf}
 use Rattle.book.specs.Calls.Told.{kind, none}
 use Rattle.book.specs.Sample.{wBytes}
@@ -67,5 +67,5 @@ asked =
     []
 
 pub all-replied : map replied asked ≡ map expected asked
-unfolding wBytes sevenBytes total book readRules readNodes readNode readAfter field within readNumber several due
+unfolding wBytes sevenBytes total book moreRules moreNodes readNode readAfter readRange readEither allowed field within readNumber several due
 all-replied = refl

@@ -1,8 +1,11 @@
 -- A rule book: its version, and its rules in order, each a kind and nodes in postfix order.
--- Also how a book is written to bytes.
+-- Also how a book is written to bytes, and which codes of nodes a version has.
 use Prim.Native.Nat.{ℕ, _+_}
+use mathlib.Core.Bool.{Bool, false, _||_}
 use mathlib.Core.List.{List, [], _∷_, _++_}
+use lib.Dec.{eqb}
 use lib.ListN.{length}
+use Rattle.number.specs.Limits.{codeNothing, codeEmpty, codeRange, codeCat, codeAlt, codeStar, codeEither}
 use Rattle.number.specs.Numbers.{writeNumber}
 use Rattle.book.specs.declared.Node.{Node}
 use Rattle.book.specs.declared.Node.the-variants.{Nothing, Empty, Range, Cat, Alt, Star, Either}
@@ -14,6 +17,27 @@ pub record Rule : Type 0 where
 pub record Book : Type 0 where
   pub version : ℕ
   pub rules : List Rule
+
+abbrev pub codeOf : Node → ℕ
+codeOf Nothing = codeNothing
+codeOf Empty = codeEmpty
+codeOf (Range lo hi) = codeRange
+codeOf Cat = codeCat
+codeOf Alt = codeAlt
+codeOf Star = codeStar
+codeOf (Either x) = codeEither
+
+-- whether the number is in the list
+abbrev pub listed : List ℕ → ℕ → Bool
+listed [] n = false
+listed (m ∷ ms) n = eqb n m || listed ms n
+
+-- the codes that books of version v have
+abbrev pub codes : ℕ → List ℕ
+codes v = codeNothing ∷ codeEmpty ∷ codeRange ∷ codeCat ∷ codeAlt ∷ codeStar ∷ codeEither ∷ []
+
+unfoldable pub allowed : ℕ → ℕ → Bool
+allowed v code = listed (codes v) code
 
 -- how many terms a node takes; it leaves one
 abbrev pub takes : Node → ℕ
@@ -30,14 +54,18 @@ unfoldable pub total : List Rule → ℕ
 total [] = 0
 total (r ∷ rs) = length (r .nodes) + total rs
 
+-- the numbers that a node carries
+abbrev pub writeFields : Node → List ℕ
+writeFields Nothing = []
+writeFields Empty = []
+writeFields (Range lo hi) = writeNumber lo ++ writeNumber hi
+writeFields Cat = []
+writeFields Alt = []
+writeFields Star = []
+writeFields (Either x) = writeNumber x
+
 unfoldable pub writeNode : Node → List ℕ
-writeNode Nothing = writeNumber 0
-writeNode Empty = writeNumber 1
-writeNode (Range lo hi) = writeNumber 2 ++ (writeNumber lo ++ writeNumber hi)
-writeNode Cat = writeNumber 3
-writeNode Alt = writeNumber 4
-writeNode Star = writeNumber 5
-writeNode (Either x) = writeNumber 6 ++ writeNumber x
+writeNode n = writeNumber (codeOf n) ++ writeFields n
 
 unfoldable pub writeNodes : List Node → List ℕ
 writeNodes [] = []

@@ -4,14 +4,13 @@ use Prim.Native.Nat.{ℕ, _+_, _-_, _*_, _≤_}
 use native.Mathlib.Omega.{arith}
 use mathlib.Core.Path.{_≡_, refl, ap, _∙_}
 use mathlib.Core.List.{List, [], _∷_}
-use lib.ListN.{length, getD, List·getD-map}
-use Rattle.meaning.specs.Re.{Re, size}
+use lib.ListN.{length}
+use Rattle.meaning.specs.Re.{Re, size, sizes}
 use Rattle.book.specs.declared.Node.{Node}
 use Rattle.book.specs.declared.Node.the-variants.{Nothing, Empty, Range, Cat, Alt, Star, Either}
-use Rattle.book.specs.Book.{Rule, Book, takes}
+use Rattle.book.specs.Book.{Rule, takes}
 use Rattle.book.specs.Valid.{Leaves, ValidRule}
-use Rattle.book.specs.Expression.{one, two, stacked, runNodes, top, expression, meant}
-use Rattle.book.specs.Places.{noRule, ruleOf}
+use Rattle.book.specs.Expression.{one, two, stacked, runNodes, top, expression}
 
 -- ---- one term is left
 
@@ -34,45 +33,35 @@ stacked-length Alt stack h = two-length Re.Alt stack h
 stacked-length Star stack h = omega (arith, one-length Re.Star stack h)
 stacked-length (Either x) stack h = omega arith
 
-pub run-length : (ns : List Node) (stack : List Re) (terms : ℕ) → Leaves terms ns → length stack ≡ terms → length (runNodes ns stack) ≡ 1
+run-length : (v : ℕ) (ns : List Node) (stack : List Re) (terms : ℕ) → Leaves v terms ns → length stack ≡ terms → length (runNodes ns stack) ≡ 1
 unfolding runNodes
-run-length [] stack terms h e = e ∙ h
-run-length (n ∷ ns) stack terms h e =
+run-length v [] stack terms h e = e ∙ h
+run-length v (n ∷ ns) stack terms h e =
     let enough : takes n ≤ length stack = omega (arith, h .1) in
     let after : length (stacked n stack) ≡ terms - takes n + 1 = rw (← e) (stacked-length n stack enough) in
-    run-length ns (stacked n stack) (terms - takes n + 1) (h .2) after
+    run-length v ns (stacked n stack) (terms - takes n + 1) (h .2) after
 
 top-alone : (stack : List Re) → length stack ≡ 1 → stack ≡ top stack ∷ []
 top-alone [] e = absurd (omega arith)
 top-alone (a ∷ []) e = refl
 top-alone (a ∷ b ∷ stack) e = absurd (omega arith)
 
-pub run-whole : (r : Rule) → ValidRule r → runNodes (r .nodes) [] ≡ expression r ∷ []
-run-whole r h = top-alone (runNodes (r .nodes) []) (run-length (r .nodes) [] 0 (h .leaves) refl)
+pub run-whole : (v : ℕ) (r : Rule) → ValidRule v r → runNodes (r .nodes) [] ≡ expression r ∷ []
+run-whole v r h = top-alone (runNodes (r .nodes) []) (run-length v (r .nodes) [] 0 (h .leaves) refl)
 
 -- ---- its size
-
--- of all terms of a stack together
-unfoldable pub sizes : List Re → ℕ
-sizes [] = 0
-sizes (a ∷ stack) = size a + sizes stack
 
 one-sizes : (stack : List Re) → sizes (one Re.Star stack) + length stack ≤ sizes stack + 2 + length (one Re.Star stack)
 unfolding sizes size
 one-sizes [] = omega arith
 one-sizes (a ∷ stack) = omega arith
 
-cat-sizes : (stack : List Re) → sizes (two Re.Cat stack) + length stack ≤ sizes stack + 2 + length (two Re.Cat stack)
-unfolding sizes size
-cat-sizes [] = omega arith
-cat-sizes (b ∷ []) = omega arith
-cat-sizes (b ∷ a ∷ stack) = omega arith
-
-alt-sizes : (stack : List Re) → sizes (two Re.Alt stack) + length stack ≤ sizes stack + 2 + length (two Re.Alt stack)
-unfolding sizes size
-alt-sizes [] = omega arith
-alt-sizes (b ∷ []) = omega arith
-alt-sizes (b ∷ a ∷ stack) = omega arith
+two-sizes : (f : Re → Re → Re) → ((a b : Re) → size (f a b) ≡ size a + size b + 1) → (stack : List Re)
+    → sizes (two f stack) + length stack ≤ sizes stack + 2 + length (two f stack)
+unfolding sizes
+two-sizes f e [] = omega arith
+two-sizes f e (b ∷ []) = omega arith
+two-sizes f e (b ∷ a ∷ stack) = omega (arith, e a b)
 
 -- a node adds at most two to the sizes for itself, and one more for each term that it adds to the stack
 stacked-sizes : (n : Node) (stack : List Re) → sizes (stacked n stack) + length stack ≤ sizes stack + 2 + length (stacked n stack)
@@ -80,32 +69,23 @@ unfolding stacked sizes size
 stacked-sizes Nothing stack = omega arith
 stacked-sizes Empty stack = omega arith
 stacked-sizes (Range lo hi) stack = omega arith
-stacked-sizes Cat stack = cat-sizes stack
-stacked-sizes Alt stack = alt-sizes stack
+stacked-sizes Cat stack = two-sizes Re.Cat (λ a b. omega arith) stack
+stacked-sizes Alt stack = two-sizes Re.Alt (λ a b. omega arith) stack
 stacked-sizes Star stack = one-sizes stack
 stacked-sizes (Either x) stack = omega arith
 
-pub run-sizes : (ns : List Node) (stack : List Re)
+run-sizes : (ns : List Node) (stack : List Re)
     → sizes (runNodes ns stack) + length stack ≤ sizes stack + 2 * length ns + length (runNodes ns stack)
 unfolding runNodes
 run-sizes [] stack = omega arith
 run-sizes (n ∷ ns) stack = omega (arith, stacked-sizes n stack, run-sizes ns (stacked n stack))
 
 -- half of a rule's nodes, and one, can be leaves, so the expression has at most twice as many nodes, and one
-pub expression-size : (r : Rule) → ValidRule r → size (expression r) ≤ 2 * length (r .nodes) + 1
+pub expression-size : (v : ℕ) (r : Rule) → ValidRule v r → size (expression r) ≤ 2 * length (r .nodes) + 1
 unfolding sizes
-expression-size r h =
-    let whole : runNodes (r .nodes) [] ≡ expression r ∷ [] = run-whole r h in
+expression-size v r h =
+    let whole : runNodes (r .nodes) [] ≡ expression r ∷ [] = run-whole v r h in
     let bound = run-sizes (r .nodes) [] in
     let all : sizes (runNodes (r .nodes) []) ≡ size (expression r) + 0 = ap sizes whole in
     let left : length (runNodes (r .nodes) []) ≡ 1 = ap length whole in
     omega arith
-
-pub expression-small : (r : Rule) → ValidRule r → size (expression r) ≤ 3 * length (r .nodes)
-expression-small r h = omega (arith, expression-size r h, h .some)
-
--- ---- a book's row of expressions, rule by rule
-
-pub meant-at : (b : Book) (i : ℕ) → getD (meant b) i Re.Nothing ≡ expression (ruleOf b i)
-unfolding runNodes
-meant-at b i = List·getD-map expression (b .rules) i noRule

@@ -67,8 +67,8 @@ the-refusals file r e =
     record { one-of-six = f .row; near = f .near; rightly = λ b. book-none file r b e }
 
 -- the nodes of a valid rule leave its expression and nothing else, and as a tree it has at most twice as many nodes, and one
-pub the-expression : (r : Rule) → ValidRule r → (runNodes (r .nodes) [] ≡ expression r ∷ []) × (size (expression r) ≤ 2 * length (r .nodes) + 1)
-the-expression r h = (run-whole r h, expression-size r h)
+pub the-expression : (v : ℕ) (r : Rule) → ValidRule v r → (runNodes (r .nodes) [] ≡ expression r ∷ []) × (size (expression r) ≤ 2 * length (r .nodes) + 1)
+the-expression v r h = (run-whole v r h, expression-size v r h)
 
 -- where the nodes of rule i stand in a book that was read, and what follows them
 pub the-places : (file : List ℕ) (b : Book) (after i : ℕ) → Bytes file → readBook file ≡ got b after → i < length (b .rules)
@@ -76,7 +76,7 @@ pub the-places : (file : List ℕ) (b : Book) (after i : ℕ) → Bytes file →
 the-places file b after i all e l = rule-in file b after i all e l .nodes-stand
 
 -- and a node that stands somewhere is read there
-pub the-nodes : (file : List ℕ) (v : ℕ) (n : Node) (at : ℕ) (t : List ℕ) → Within n → drop at file ≡ writeNode n ++ t
+pub the-nodes : (file : List ℕ) (v : ℕ) (n : Node) (at : ℕ) (t : List ℕ) → Within v n → drop at file ≡ writeNode n ++ t
     → readNode file v at ≡ got n (at + length (writeNode n))
 the-nodes = node-written
 

@@ -6,7 +6,7 @@ use mathlib.Core.Path.{_≡_, refl, sym, ap, _∙_}
 use mathlib.Core.List.{List}
 use borrow.Author.Tests.{lt-ltb, le-ltb}
 use lib.ListN.{length}
-use Rattle.number.specs.Limits.{version, lastVersion, rules, kinds, nodes}
+use Rattle.number.specs.Limits.{firstVersion, lastVersion, rules, kinds, nodes}
 use Rattle.number.specs.declared.Refusal.{Refusal}
 use Rattle.number.specs.Refused.{Answer, Outcome}
 use Rattle.number.specs.Refused.Answer.{got, refused}
@@ -16,7 +16,7 @@ use Rattle.number.specs.NumberLaws.{field-read}
 use Rattle.number.specs.Reading.{mapAnswer}
 use Rattle.book.specs.declared.RulePlace.{RulePlace}
 use Rattle.book.specs.Book.{Book}
-use Rattle.book.specs.Reads.{readNodes, readBook}
+use Rattle.book.specs.Reads.{moreNodes, readBook}
 use Rattle.book.specs.Calls.{Size, sizeOf, kindOf}
 use Rattle.book.specs.Calls.Told.{kind as tellKind, none as tellNone}
 use Rattle.book.specs.Places.{ruleOf, ruleAt, nodesAt}
@@ -37,54 +37,54 @@ same-given e = cc
 module _ (file : List ℕ) where
   -- ---- the way to a rule
 
-  pub head-kind-refused : (at : ℕ) (r : Refusal) → field file 0 kinds at ≡ refused r → readHead file at ≡ refused r
+  pub head-kind-refused : (v at : ℕ) (r : Refusal) → field file 0 kinds at ≡ refused r → readHead file v at ≡ refused r
   unfolding readHead
-  head-kind-refused at r e = rw e
+  head-kind-refused v at r e = rw e
 
-  pub head-count-refused : (at kind count : ℕ) (r : Refusal) → field file 0 kinds at ≡ got kind count
-      → field file 1 nodes count ≡ refused r → readHead file at ≡ refused r
+  pub head-count-refused : (v at kind count : ℕ) (r : Refusal) → field file 0 kinds at ≡ got kind count
+      → field file 1 nodes count ≡ refused r → readHead file v at ≡ refused r
   unfolding readHead
-  head-count-refused at kind count r e f = simp (e, f)
+  head-count-refused v at kind count r e f = simp (e, f)
 
-  pub head-got : (at kind count m first : ℕ) → HeadRead file at kind count m first
-      → readHead file at ≡ got (record { kind = kind; nodes = m; at = first }) first
+  pub head-got : (v at kind count m first : ℕ) → HeadRead file at kind count m first
+      → readHead file v at ≡ got (record { version = v; kind = kind; nodes = m; at = first }) first
   unfolding readHead
-  head-got at kind count m first h = simp (h .kind-read, h .count-read)
+  head-got v at kind count m first h = simp (h .kind-read, h .count-read)
 
   -- a node count is within its field
-  pub head-few : (at : ℕ) (p : RulePlace) (next : ℕ) → readHead file at ≡ got p next → p .nodes ≤ nodes
+  pub head-few : (v at : ℕ) (p : RulePlace) (next : ℕ) → readHead file v at ≡ got p next → p .nodes ≤ nodes
   unfolding readHead
-  head-few at p next e =
+  head-few v at p next e =
       let kind = went (field file 0 kinds at) _ e in
       let m = went (field file 1 nodes (kind .mid)) _ (kind .onto) in
       let same : m .from ≡ p .nodes = ap (λ (x : RulePlace). x .nodes) (same-thing (m .onto)) in
       omega (arith, field-read file 1 nodes (kind .mid) (m .from) (m .mid) (m .read) .high)
 
-  pub find-head-refused : (v left at : ℕ) (r : Refusal) → readHead file at ≡ refused r → findRule file v left at ≡ refused r
+  pub find-head-refused : (v left at : ℕ) (r : Refusal) → readHead file v at ≡ refused r → findRule file v left at ≡ refused r
   unfolding findRule
   find-head-refused v zero at r e = e
   find-head-refused v (suc k) at r e = rw e
 
-  pub find-here : (v left at : ℕ) → left ≡ 0 → findRule file v left at ≡ readHead file at
+  pub find-here : (v left at : ℕ) → left ≡ 0 → findRule file v left at ≡ readHead file v at
   unfolding findRule
   find-here v left at z = rw z
 
-  pub find-nodes-refused : (v left k at : ℕ) (p : RulePlace) (next : ℕ) (r : Refusal) → left ≡ suc k → readHead file at ≡ got p next
+  pub find-nodes-refused : (v left k at : ℕ) (p : RulePlace) (next : ℕ) (r : Refusal) → left ≡ suc k → readHead file v at ≡ got p next
       → counted file v (p .nodes) 0 next ≡ refused r → findRule file v left at ≡ refused r
   unfolding findRule
-  find-nodes-refused v left k at p next r z e f = rw z (simp (e, refused-of length (readNodes file v (p .nodes) 0 next) f))
+  find-nodes-refused v left k at p next r z e f = rw z (simp (e, refused-of length (moreNodes file v (p .nodes) 0 next) f))
 
-  pub find-onward : (v left k at : ℕ) (p : RulePlace) (next size after : ℕ) → left ≡ suc k → readHead file at ≡ got p next
+  pub find-onward : (v left k at : ℕ) (p : RulePlace) (next size after : ℕ) → left ≡ suc k → readHead file v at ≡ got p next
       → counted file v (p .nodes) 0 next ≡ got size after → findRule file v left at ≡ findRule file v k after
   unfolding findRule
   find-onward v left k at p next size after z e f =
-      rw z (simp (e, made-of length (readNodes file v (p .nodes) 0 next) f .read))
+      rw z (simp (e, made-of length (moreNodes file v (p .nodes) 0 next) f .read))
 
-  pub from-version-refused : (rule : ℕ) (r : Refusal) → field file version lastVersion 0 ≡ refused r → findFrom file rule 0 ≡ refused r
+  pub from-version-refused : (rule : ℕ) (r : Refusal) → field file firstVersion lastVersion 0 ≡ refused r → findFrom file rule 0 ≡ refused r
   unfolding findFrom
   from-version-refused rule r e = rw e
 
-  pub from-count-refused : (rule v count : ℕ) (r : Refusal) → field file version lastVersion 0 ≡ got v count
+  pub from-count-refused : (rule v count : ℕ) (r : Refusal) → field file firstVersion lastVersion 0 ≡ got v count
       → field file 1 rules count ≡ refused r → findFrom file rule 0 ≡ refused r
   unfolding findFrom
   from-count-refused rule v count r e f = simp (e, f)
@@ -96,33 +96,33 @@ module _ (file : List ℕ) where
   -- ---- the place at the end of the way, by what is written before it
 
   module _ (b : Book) where
-    head-at : (i : ℕ) → RuleIn file b i → readHead file (ruleAt b i) ≡ got (placeAt b i) (nodesAt b i)
-    head-at i r = head-got (ruleAt b i) _ _ _ (nodesAt b i) (record { kind-read = r .kind-read; count-read = r .count-read })
+    head-at : (i : ℕ) → RuleIn file b i → readHead file (b .version) (ruleAt b i) ≡ got (placeAt b i) (nodesAt b i)
+    head-at i r = head-got (b .version) (ruleAt b i) _ _ _ (nodesAt b i) (record { kind-read = r .kind-read; count-read = r .count-read })
 
     -- the rule's nodes are read there, and the next rule follows them
-    pub nodes-at : (v i : ℕ) → RuleIn file b i
-        → readNodes file v (length (ruleOf b i .nodes)) 0 (nodesAt b i) ≡ got (ruleOf b i .nodes) (ruleAt b (i + 1))
-    nodes-at v i r =
-        nodes-written file v (ruleOf b i .nodes) 0 (nodesAt b i) _ (r .valid .leaves) (r .nodes-stand)
+    nodes-at : (i : ℕ) → RuleIn file b i
+        → moreNodes file (b .version) (length (ruleOf b i .nodes)) 0 (nodesAt b i) ≡ got (ruleOf b i .nodes) (ruleAt b (i + 1))
+    nodes-at i r =
+        nodes-written file (b .version) (ruleOf b i .nodes) 0 (nodesAt b i) _ (r .valid .leaves) (r .nodes-stand)
         ∙ ap (got (ruleOf b i .nodes)) (r .next)
 
-    find-at : (v : ℕ) → ((i : ℕ) → i < length (b .rules) → RuleIn file b i) → (k i j : ℕ) → j ≡ i + k → j < length (b .rules)
-        → findRule file v k (ruleAt b i) ≡ got (placeAt b j) (nodesAt b j)
-    find-at v stands zero i j e h =
+    find-at : ((i : ℕ) → i < length (b .rules) → RuleIn file b i) → (k i j : ℕ) → j ≡ i + k → j < length (b .rules)
+        → findRule file (b .version) k (ruleAt b i) ≡ got (placeAt b j) (nodesAt b j)
+    find-at stands zero i j e h =
         let same : i ≡ j = omega arith in
-        rw same (find-here v 0 (ruleAt b j) refl ∙ head-at j (stands j h))
-    find-at v stands (suc k) i j e h =
+        rw same (find-here (b .version) 0 (ruleAt b j) refl ∙ head-at j (stands j h))
+    find-at stands (suc k) i j e h =
         let r = stands i (omega arith) in
-        let past = ap (mapAnswer length) (nodes-at v i r) in
-        find-onward v (suc k) k (ruleAt b i) _ (nodesAt b i) (length (ruleOf b i .nodes)) (ruleAt b (i + 1)) refl (head-at i r) past
-        ∙ find-at v stands k (i + 1) j (omega arith) h
+        let past = ap (mapAnswer length) (nodes-at i r) in
+        find-onward (b .version) (suc k) k (ruleAt b i) _ (nodesAt b i) (length (ruleOf b i .nodes)) (ruleAt b (i + 1)) refl (head-at i r) past
+        ∙ find-at stands k (i + 1) j (omega arith) h
 
     pub found-in : (after i : ℕ) → Bytes file → readBook file ≡ got b after → i < length (b .rules)
         → findFrom file i 0 ≡ got (placeAt b i) (nodesAt b i)
     found-in after i all e h =
         let starts = rules-start file b after all e in
         from-rules i (b .version) _ (length (b .rules)) (ruleAt b 0) (record { version-read = starts .0; count-read = starts .1 })
-        ∙ find-at (b .version) (λ j. rule-in file b after j all e) i 0 i (omega arith) h
+        ∙ find-at (λ j. rule-in file b after j all e) i 0 i (omega arith) h
 
   -- ---- the calls, from what checking a book told
 
@@ -205,10 +205,6 @@ module _ (file : List ℕ) where
 
   -- ---- for the layers above
 
-  -- the place of a rule of a book that was read, and its nodes there
+  -- the place of a rule of a book that was read
   pub place-known : (b : Book) (after i : ℕ) → readBook file ≡ got b after → i < length (b .rules) → placeOf file i ≡ placeAt b i
   place-known b after i e h = rw (e, lt-ltb _ _ h)
-
-  pub place-nodes : (b : Book) (after i v : ℕ) → Bytes file → readBook file ≡ got b after → i < length (b .rules)
-      → readNodes file v (length (ruleOf b i .nodes)) 0 (nodesAt b i) ≡ got (ruleOf b i .nodes) (ruleAt b (i + 1))
-  place-nodes b after i v all e h = nodes-at b v i (rule-in file b after i all e h)

@@ -6,19 +6,20 @@ use mathlib.Core.Path.{_≡_, refl, sym, ap, subst, _∙_}
 use mathlib.Core.List.{List, [], _∷_, _++_, map, flatten, append-assoc, append-nil}
 use mathlib.Core.Logic.{_↔_, _⊎_, inl, inr}
 use lib.ListN.{length, length-append}
-use Rattle.number.specs.Limits.{version, rules, nodes}
+use Rattle.number.specs.Limits.{lastVersion, rules, nodes}
 use Rattle.meaning.specs.Re.{Re, Text, size}
+use Rattle.meaning.specs.PartLaws.{size-some}
 use Rattle.meaning.specs.Means.{OneByte, Matches}
 use Rattle.book.specs.declared.Node.{Node}
 use Rattle.book.specs.declared.Node.the-variants.{Nothing, Empty, Range, Cat, Alt, Star, Either}
-use Rattle.book.specs.Book.{Rule, total}
+use Rattle.book.specs.Book.{Rule, allowed, total}
 use Rattle.book.specs.Valid.{Leaves, ValidRule, AllValid}
 use Rattle.book.specs.Expression.{stacked, runNodes, top, expression}
 use Rattle.book.specs.Postfix.{postfix, OfBytes, AllOfBytes, BookFor}
 
 -- ---- it leaves the expression
 
-three : (a b c d : List Node) → (a ++ (b ++ c)) ++ d ≡ a ++ (b ++ (c ++ d))
+pub three : (a b c d : List Node) → (a ++ (b ++ c)) ++ d ≡ a ++ (b ++ (c ++ d))
 three a b c d = append-assoc a (b ++ c) d ∙ ap (λ (x : List Node). a ++ x) (append-assoc b c d)
 
 -- with anything behind it
@@ -54,50 +55,42 @@ postfix-size (Re.Star a) = omega (arith, length-append (postfix a) (Star ∷ [])
 
 -- ---- and it is a valid rule
 
-size-some : (r : Re) → 1 ≤ size r
-unfolding size
-size-some Re.Nothing = omega arith
-size-some Re.Empty = omega arith
-size-some (Re.Range lo hi) = omega arith
-size-some (Re.Cat a b) = omega arith
-size-some (Re.Alt a b) = omega arith
-size-some (Re.Star a) = omega arith
+-- the same nodes or count, told otherwise
+pub leaves-as : (v t : ℕ) {xs ys : List Node} → xs ≡ ys → Leaves v t ys → Leaves v t xs
+leaves-as v t e h = subst (Leaves v t) (sym e) h
 
-leaves-as : (t : ℕ) {xs ys : List Node} → xs ≡ ys → Leaves t ys → Leaves t xs
-leaves-as t e h = subst (Leaves t) (sym e) h
+pub at-count : (v : ℕ) (ns : List Node) (t u : ℕ) → t ≡ u → Leaves v t ns → Leaves v u ns
+at-count v ns t u e h = subst (λ (x : ℕ). Leaves v x ns) e h
 
-at-count : (ns : List Node) (t u : ℕ) → t ≡ u → Leaves t ns → Leaves u ns
-at-count ns t u e h = subst (λ (x : ℕ). Leaves x ns) e h
-
-leaves-on : (r : Re) (ns : List Node) (t : ℕ) → OfBytes r → Leaves (t + 1) ns → Leaves t (postfix r ++ ns)
-unfolding postfix
-leaves-on Re.Nothing ns t f h = (tt, omega arith, at-count ns (t + 1) (t - 0 + 1) (omega arith) h)
-leaves-on Re.Empty ns t f h = (tt, omega arith, at-count ns (t + 1) (t - 0 + 1) (omega arith) h)
-leaves-on (Re.Range lo hi) ns t f h = (f, omega arith, at-count ns (t + 1) (t - 0 + 1) (omega arith) h)
+leaves-on : (r : Re) (ns : List Node) (t : ℕ) → OfBytes r → Leaves lastVersion (t + 1) ns → Leaves lastVersion t (postfix r ++ ns)
+unfolding postfix allowed
+leaves-on Re.Nothing ns t f h = ((refl, tt), omega arith, at-count lastVersion ns (t + 1) (t - 0 + 1) (omega arith) h)
+leaves-on Re.Empty ns t f h = ((refl, tt), omega arith, at-count lastVersion ns (t + 1) (t - 0 + 1) (omega arith) h)
+leaves-on (Re.Range lo hi) ns t f h = ((refl, f), omega arith, at-count lastVersion ns (t + 1) (t - 0 + 1) (omega arith) h)
 leaves-on (Re.Cat a b) ns t f h =
-    leaves-as t (three (postfix a) (postfix b) (Cat ∷ []) ns)
+    leaves-as lastVersion t (three (postfix a) (postfix b) (Cat ∷ []) ns)
     (leaves-on a (postfix b ++ (Cat ∷ ns)) t (f .0) (leaves-on b (Cat ∷ ns) (t + 1) (f .1)
-    (tt, omega arith, at-count ns (t + 1) (t + 1 + 1 - 2 + 1) (omega arith) h)))
+    ((refl, tt), omega arith, at-count lastVersion ns (t + 1) (t + 1 + 1 - 2 + 1) (omega arith) h)))
 leaves-on (Re.Alt a b) ns t f h =
-    leaves-as t (three (postfix a) (postfix b) (Alt ∷ []) ns)
+    leaves-as lastVersion t (three (postfix a) (postfix b) (Alt ∷ []) ns)
     (leaves-on a (postfix b ++ (Alt ∷ ns)) t (f .0) (leaves-on b (Alt ∷ ns) (t + 1) (f .1)
-    (tt, omega arith, at-count ns (t + 1) (t + 1 + 1 - 2 + 1) (omega arith) h)))
+    ((refl, tt), omega arith, at-count lastVersion ns (t + 1) (t + 1 + 1 - 2 + 1) (omega arith) h)))
 leaves-on (Re.Star a) ns t f h =
-    leaves-as t (append-assoc (postfix a) (Star ∷ []) ns)
-    (leaves-on a (Star ∷ ns) t f (tt, omega arith, at-count ns (t + 1) (t + 1 - 1 + 1) (omega arith) h))
+    leaves-as lastVersion t (append-assoc (postfix a) (Star ∷ []) ns)
+    (leaves-on a (Star ∷ ns) t f ((refl, tt), omega arith, at-count lastVersion ns (t + 1) (t + 1 - 1 + 1) (omega arith) h))
 
 abbrev asRule : Re → Rule
 asRule r = record { kind = 0; nodes = postfix r }
 
-rule-valid : (r : Re) → OfBytes r → ValidRule (asRule r)
+rule-valid : (r : Re) → OfBytes r → ValidRule lastVersion (asRule r)
 rule-valid r f =
     record {
       kind-fits = omega arith;
       some = omega (arith, postfix-size r, size-some r);
-      leaves = leaves-as 0 (sym (append-nil (postfix r))) (leaves-on r [] 0 f refl);
+      leaves = leaves-as lastVersion 0 (sym (append-nil (postfix r))) (leaves-on r [] 0 f refl);
     }
 
-all-valid : (rs : List Re) → AllOfBytes rs → AllValid (map asRule rs)
+all-valid : (rs : List Re) → AllOfBytes rs → AllValid lastVersion (map asRule rs)
 all-valid [] f = tt
 all-valid (r ∷ rs) f = (rule-valid r (f .0), all-valid rs (f .1))
 
@@ -126,7 +119,7 @@ all-mean (r ∷ rs) =
 pub book-for : (rs : List Re) → 1 ≤ length rs → length rs ≤ rules → AllOfBytes rs → length (flatten (map postfix rs)) ≤ nodes → BookFor rs
 book-for rs some few f small =
     record {
-      b = record { version = version; rules = map asRule rs };
+      b = record { version = lastVersion; rules = map asRule rs };
       valid =
           record {
             known = (omega arith, omega arith);

@@ -10,13 +10,13 @@ use borrow.Author.Tests.{le-ltb}
 use lib.ListN.{length, drop}
 use lib.Seq.{drop-length}
 use Rattle.number.specs.declared.Refusal.{Refusal}
-use Rattle.number.specs.Limits.{version, lastVersion, rules, nodes}
+use Rattle.number.specs.Limits.{firstVersion, lastVersion, rules, nodes}
 use Rattle.number.specs.Refused.Answer.{got, refused}
 use Rattle.number.specs.Numbers.{Bytes, writeNumber}
 use Rattle.number.specs.NumberLaws.{field-written}
 use Rattle.book.specs.declared.Node.{Node}
 use Rattle.book.specs.Book.{Rule, Book, total, writeNode, writeNodes, writeRules, writeBook}
-use Rattle.book.specs.Reads.{readNode, readNodes, readRules, book, readBook}
+use Rattle.book.specs.Reads.{readNode, moreNodes, moreRules, book, readBook}
 use Rattle.book.specs.Valid.{Within, Leaves, AllValid, ValidBook}
 use Rattle.book.specs.ReadLawsSteps.{clash, ByAnswer, Stands, Fault, first, second, past-both}
 use Rattle.book.specs.ReadLawsWritten.{rules-written}
@@ -37,7 +37,7 @@ book-written b valid =
     let there : 0 + length v + length n + length rs ≡ length file =
     past-both (0 + length v) n rs ∙ past-both 0 v (n ++ rs) ∙ zero-add (length file) in
     rw (
-      field-written (b .version) file version lastVersion 0 _ (omega (arith, valid .known)) (valid .known .0) (valid .known .1) (first file 0 v _ _ e0),
+      field-written (b .version) file firstVersion lastVersion 0 _ (omega (arith, valid .known)) (valid .known .0) (valid .known .1) (first file 0 v _ _ e0),
       field-written (length (b .rules)) file 1 rules (0 + length v) _ (omega (arith, valid .few)) (valid .some) (valid .few) (first file (0 + length v) n _ _ e1),
       rules-written file (b .version) (b .rules) 0 (0 + length v + length n) [] (valid .valid) (omega (arith, valid .small)) e2,
       there,
@@ -93,37 +93,37 @@ book-refused file r e = subst (ByAnswer (ReadsBook file) (Fault file)) e (book-h
 
 -- ---- the parts, for code that reads them one by one
 
-pub record NodeIs (file : List ℕ) (at : ℕ) (n : Node) (next : ℕ) : Type 0 where
-  pub within : Within n
+pub record NodeIs (file : List ℕ) (v at : ℕ) (n : Node) (next : ℕ) : Type 0 where
+  pub within : Within v n
   pub stands : Stands file at (writeNode n) next
 
 pub node-read : (file : List ℕ) (v at : ℕ) (n : Node) (next : ℕ) → Bytes file → at ≤ length file → readNode file v at ≡ got n next
-    → NodeIs file at n next
+    → NodeIs file v at n next
 node-read file v at n next all h e =
-    let k : ReadsNode file at n next = subst (ByAnswer (ReadsNode file at) (Fault file)) e (node-holds file v at h) in
+    let k : ReadsNode file v at n next = subst (ByAnswer (ReadsNode file v at) (Fault file)) e (node-holds file v at h) in
     record { within = k .within; stands = k .read .stands all }
 
-pub record NodesAre (file : List ℕ) (k terms at : ℕ) (ns : List Node) (next : ℕ) : Type 0 where
+pub record NodesAre (file : List ℕ) (v k terms at : ℕ) (ns : List Node) (next : ℕ) : Type 0 where
   pub many : length ns ≡ k
-  pub leaves : Leaves terms ns
+  pub leaves : Leaves v terms ns
   pub stands : Stands file at (writeNodes ns) next
 
 pub nodes-read : (file : List ℕ) (v k terms at : ℕ) (ns : List Node) (next : ℕ) → Bytes file → at ≤ length file
-    → readNodes file v k terms at ≡ got ns next → NodesAre file k terms at ns next
+    → moreNodes file v k terms at ≡ got ns next → NodesAre file v k terms at ns next
 nodes-read file v k terms at ns next all h e =
-    let r : ReadsNodes file k terms at ns next =
-    subst (ByAnswer (ReadsNodes file k terms at) (Fault file)) e (nodes-holds file v k terms at h) in
+    let r : ReadsNodes file v k terms at ns next =
+    subst (ByAnswer (ReadsNodes file v k terms at) (Fault file)) e (nodes-holds file v k terms at h) in
     record { many = r .many; leaves = r .leaves; stands = r .read .stands all }
 
-pub record RulesAre (file : List ℕ) (k used at : ℕ) (rs : List Rule) (next : ℕ) : Type 0 where
+pub record RulesAre (file : List ℕ) (v k used at : ℕ) (rs : List Rule) (next : ℕ) : Type 0 where
   pub many : length rs ≡ k
-  pub valid : AllValid rs
+  pub valid : AllValid v rs
   pub small : used + total rs ≤ nodes
   pub stands : Stands file at (writeRules rs) next
 
 pub rules-read : (file : List ℕ) (v k used at : ℕ) (rs : List Rule) (next : ℕ) → Bytes file → used ≤ nodes → at ≤ length file
-    → readRules file v k used at ≡ got rs next → RulesAre file k used at rs next
+    → moreRules file v k used at ≡ got rs next → RulesAre file v k used at rs next
 rules-read file v k used at rs next all u h e =
-    let r : ReadsRules file k used at rs next =
-    subst (ByAnswer (ReadsRules file k used at) (Fault file)) e (rules-holds file v k used at u h) in
+    let r : ReadsRules file v k used at rs next =
+    subst (ByAnswer (ReadsRules file v k used at) (Fault file)) e (rules-holds file v k used at u h) in
     record { many = r .many; valid = r .valid; small = r .small; stands = r .read .stands all }

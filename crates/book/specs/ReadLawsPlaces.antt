@@ -8,7 +8,7 @@ use mathlib.Core.Path.{_≡_, refl, sym, ap, _∙_}
 use mathlib.Core.List.{List, [], _∷_, _++_, append-assoc, append-nil}
 use lib.ListN.{length, getD, take, drop, length-append}
 use lib.Seq.{split-at, take-suc, drop-at}
-use Rattle.number.specs.Limits.{version, lastVersion, rules, kinds, nodes}
+use Rattle.number.specs.Limits.{firstVersion, lastVersion, rules, kinds, nodes}
 use Rattle.number.specs.Refused.Answer.{got}
 use Rattle.number.specs.Numbers.{Bytes, field, writeNumber}
 use Rattle.number.specs.NumberLaws.{field-written}
@@ -24,10 +24,10 @@ use Rattle.book.specs.ReadLaws.{book-read}
 
 -- ---- one rule of many
 
-pub rule-valid : (rs : List Rule) (i : ℕ) (d : Rule) → AllValid rs → i < length rs → ValidRule (getD rs i d)
-rule-valid [] i d h l = absurd (omega arith)
-rule-valid (r ∷ rs) zero d h l = h .0
-rule-valid (r ∷ rs) (suc i) d h l = rule-valid rs i d (h .1) (omega arith)
+pub rule-valid : (v : ℕ) (rs : List Rule) (i : ℕ) (d : Rule) → AllValid v rs → i < length rs → ValidRule v (getD rs i d)
+rule-valid v [] i d h l = absurd (omega arith)
+rule-valid v (r ∷ rs) zero d h l = h .0
+rule-valid v (r ∷ rs) (suc i) d h l = rule-valid v rs i d (h .1) (omega arith)
 
 pub rule-small : (rs : List Rule) (i : ℕ) (d : Rule) → i < length rs → length (getD rs i d .nodes) ≤ total rs
 unfolding total
@@ -62,7 +62,7 @@ rules-next rs i d l =
 
 -- rule i of a book stands in its file: where, what is read there, and what follows
 pub record RuleIn (file : List ℕ) (b : Book) (i : ℕ) : Type 0 where
-  pub valid : ValidRule (ruleOf b i)
+  pub valid : ValidRule (b .version) (ruleOf b i)
   pub small : length (ruleOf b i .nodes) ≤ nodes
   pub stands : drop (ruleAt b i) file ≡ writeRule (ruleOf b i) ++ writeRules (drop (i + 1) (b .rules))
   pub kind-read : field file 0 kinds (ruleAt b i) ≡ got (ruleOf b i .kind) (ruleAt b i + length (writeNumber (ruleOf b i .kind)))
@@ -119,7 +119,7 @@ rule-stands file b i valid e l =
     let body : List ℕ = writeNodes (r .nodes) in
     let rest : List ℕ = writeRules (drop (i + 1) (b .rules)) in
     let at : ℕ = ruleAt b i in
-    let ok : ValidRule r = rule-valid (b .rules) i noRule (valid .valid) l in
+    let ok : ValidRule (b .version) r = rule-valid (b .version) (b .rules) i noRule (valid .valid) l in
     let few : length (r .nodes) ≤ nodes = omega (arith, rule-small (b .rules) i noRule l, valid .small) in
     let e0 : drop at file ≡ (kind ++ (count ++ body)) ++ rest =
     rw (← e, book-split b i l) (drop-at (front b i) _ at (front-length b i)) in
@@ -146,7 +146,7 @@ rule-in file b after i all e l =
 
 -- the first rule stands after the version and the count, which are read so
 pub rules-start : (file : List ℕ) (b : Book) (after : ℕ) → Bytes file → readBook file ≡ got b after
-    → (field file version lastVersion 0 ≡ got (b .version) (length (writeNumber (b .version))))
+    → (field file firstVersion lastVersion 0 ≡ got (b .version) (length (writeNumber (b .version))))
     × (field file 1 rules (length (writeNumber (b .version))) ≡ got (length (b .rules)) (ruleAt b 0))
 unfolding ruleAt writeBook writeRules
 rules-start file b after all e =
@@ -157,7 +157,7 @@ rules-start file b after all e =
     let e0 : drop 0 file ≡ v ++ (n ++ rs) = sym (h .writes) in
     let e1 : drop (length v) file ≡ n ++ rs = rw zero-add at (drop-past file 0 v (n ++ rs) e0) in
     let known = h .valid .known in (
-      field-written (b .version) file version lastVersion 0 (n ++ rs) (omega arith) (known .0) (known .1) e0
+      field-written (b .version) file firstVersion lastVersion 0 (n ++ rs) (omega arith) (known .0) (known .1) e0
           ∙ ap (got (b .version)) (zero-add (length v)),
       field-written (length (b .rules)) file 1 rules (length v) rs (omega (arith, h .valid .few)) (h .valid .some) (h .valid .few) e1
           ∙ ap (got (length (b .rules))) (sym (add-zero (length v + length n))),
@@ -165,7 +165,7 @@ rules-start file b after all e =
 
 -- ---- a node, and the nodes after it
 
-pub node-step : (file : List ℕ) (v : ℕ) (n : Node) (ns : List Node) (at : ℕ) (t : List ℕ) → Within n
+pub node-step : (file : List ℕ) (v : ℕ) (n : Node) (ns : List Node) (at : ℕ) (t : List ℕ) → Within v n
     → drop at file ≡ writeNodes (n ∷ ns) ++ t
     → (readNode file v at ≡ got n (at + length (writeNode n))) × (drop (at + length (writeNode n)) file ≡ writeNodes ns ++ t)
 unfolding writeNodes

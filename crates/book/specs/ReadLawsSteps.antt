@@ -4,7 +4,7 @@ use Prim.Native.Nat.{ℕ, _+_, _≤_}
 use native.Mathlib.Omega.{arith}
 use mathlib.Core.Path.{_≡_, refl, sym, ap, _∙_}
 use mathlib.Core.Logic.{_⊎_, inl, inr}
-use mathlib.Core.Bool.{Bool, true, false, cond}
+use mathlib.Core.Bool.{Bool, true, false, not, cond}
 use mathlib.Core.List.{List, [], _++_, append-assoc}
 use lib.Dec.{eqb}
 use lib.ListN.{length, drop, length-append}
@@ -17,12 +17,22 @@ use Rattle.number.specs.Branch.{by-cond}
 use Rattle.number.specs.Lists.{drop-past}
 use Rattle.number.specs.NumberLaws.{Way, read-way, written-read, field-read}
 use Rattle.number.specs.NumberLaws.Way.{none, one, half, two, most, three, over}
-use Rattle.number.specs.FaultLaws.{OfNumber, field-refusal}
+use Rattle.number.specs.FaultLaws.{OfNumber, of-fault, field-refusal, refused-fault}
+use Rattle.meaning.specs.Tests.{clash as untrue}
 use Rattle.number.specs.FaultLaws.OfNumber.{short, runs-on, padded, outside}
 
 -- a refusal is not something got
 pub clash : {A : Type 0} {r : Refusal} {x : A} {next : ℕ} → _≡_ {A = Answer A} (refused r) (got x next) → ⊥
 clash e = let z : _≡_ {A = ℕ} 0 1 = cc in omega arith
+
+-- what a test says where its contrary is true, and where it is false
+pub not-true : (b : Bool) → not b ≡ true → b ≡ false
+not-true true e = absurd (untrue e refl)
+not-true false e = refl
+
+pub not-false : (b : Bool) → not b ≡ false → b ≡ true
+not-false true e = refl
+not-false false e = absurd (untrue refl e)
 
 -- ---- claims about answers
 
@@ -115,28 +125,44 @@ number-inside s at n next = go (read-way s at)
     go (three a b c h2 f g i k l m) e = let place : next ≡ at + 3 = several-inside at c _ _ n next e in omega arith
     go (over a b c h2 f g i k l m) e = absurd (clash e)
 
-pub field-holds : (file : List ℕ) (lo hi at : ℕ) → at ≤ length file
+fault-of : {file : List ℕ} {at : ℕ} {r : Refusal} → at ≤ length file → OfNumber at r → Fault file r
+fault-of h short = record { row = inl (omega arith, omega arith); near = h }
+fault-of h runs-on = record { row = inl (omega arith, omega arith); near = h }
+fault-of h padded = record { row = inr refl; near = h }
+fault-of h outside = record { row = inl (omega arith, omega arith); near = h }
+
+number-read : (file : List ℕ) (at n next : ℕ) → readNumber file at ≡ got n next → Read file at (writeNumber n) next
+number-read file at n next e =
+    record {
+      inside = number-inside file at n next e;
+      stands = λ all. let w = written-read file at n next all e in record { stands = w .stands; after = w .after; inside = w .inside };
+    }
+
+field-holds : (file : List ℕ) (lo hi at : ℕ) → at ≤ length file
     → ByAnswer (λ n next. Field file lo hi at n next) (Fault file) (field file lo hi at)
 field-holds file lo hi at h = go (field file lo hi at) refl
   where
-    fault : {r : Refusal} → OfNumber at r → Fault file r
-    fault short = record { row = inl (omega arith, omega arith); near = h }
-    fault runs-on = record { row = inl (omega arith, omega arith); near = h }
-    fault padded = record { row = inr refl; near = h }
-    fault outside = record { row = inl (omega arith, omega arith); near = h }
-
-    stands : (n next : ℕ) → readNumber file at ≡ got n next → Bytes file → Stands file at (writeNumber n) next
-    stands n next e all =
-        let w = written-read file at n next all e in record { stands = w .stands; after = w .after; inside = w .inside }
-
     go : (x : Answer ℕ) → field file lo hi at ≡ x → ByAnswer (λ n next. Field file lo hi at n next) (Fault file) x
-    go (refused r) e = fault (field-refusal file lo hi at r e)
+    go (refused r) e = fault-of h (field-refusal file lo hi at r e)
     go (got n next) e =
         let f = field-read file lo hi at n next e in
-        record { low = f .low; high = f .high; read = record { inside = number-inside file at n next (f .read); stands = stands n next (f .read) } }
+        record { low = f .low; high = f .high; read = number-read file at n next (f .read) }
 
--- on past a field
+number-holds : (file : List ℕ) (at : ℕ) → at ≤ length file
+    → ByAnswer (λ n next. Read file at (writeNumber n) next) (Fault file) (readNumber file at)
+number-holds file at h = go (readNumber file at) refl
+  where
+    go : (x : Answer ℕ) → readNumber file at ≡ x → ByAnswer (λ n next. Read file at (writeNumber n) next) (Fault file) x
+    go (refused r) e = fault-of h (of-fault (refused-fault file at r e))
+    go (got n next) e = number-read file at n next e
+
+-- on past a field, and past any number
 pub on-field : {B : Type 0} (Q : B → ℕ → Type 0) (file : List ℕ) (lo hi at : ℕ) (f : ℕ → Reader B) → at ≤ length file
     → ((n next : ℕ) → Field file lo hi at n next → ByAnswer Q (Fault file) (f n next))
     → ByAnswer Q (Fault file) (onward (field file lo hi at) f)
 on-field Q file lo hi at f h k = on (Field file lo hi at) Q (Fault file) (field file lo hi at) f (field-holds file lo hi at h) k
+
+pub on-number : {B : Type 0} (Q : B → ℕ → Type 0) (file : List ℕ) (at : ℕ) (f : ℕ → Reader B) → at ≤ length file
+    → ((n next : ℕ) → Read file at (writeNumber n) next → ByAnswer Q (Fault file) (f n next))
+    → ByAnswer Q (Fault file) (onward (readNumber file at) f)
+on-number Q file at f h k = on (λ n. Read file at (writeNumber n)) Q (Fault file) (readNumber file at) f (number-holds file at h) k

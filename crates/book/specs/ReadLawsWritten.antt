@@ -1,63 +1,67 @@
 -- What was written is read: where a part of a valid book stands as it is written, its reader gets that part and the place after it.
 -- From a node up to the rules, each for any file and any place.
-use Prim.Native.Nat.{ℕ, _+_, _-_, _≤_}
+use Prim.Native.Nat.{ℕ, _+_, _-_, _≤_, _<_}
 use native.Mathlib.Omega.{arith}
 use mathlib.Core.Path.{_≡_, ap, _∙_}
 use mathlib.Core.List.{List, [], _∷_, _++_}
 use borrow.Author.Tests.{le-ltb, eq-eqb}
 use lib.ListN.{length, drop}
-use Rattle.number.specs.Limits.{lastCode, kinds, nodes, lastByte, firstLetter, lastLetter}
+use Rattle.number.specs.Limits.{group, kinds, nodes, lastByte, firstLetter, lastLetter}
 use Rattle.number.specs.Refused.Answer.{got}
-use Rattle.number.specs.Numbers.{field, writeNumber}
-use Rattle.number.specs.NumberLaws.{field-written}
+use Rattle.number.specs.Numbers.{writeNumber}
+use Rattle.number.specs.NumberLaws.{read-written, field-written}
 use Rattle.book.specs.declared.Node.{Node}
 use Rattle.book.specs.declared.Node.the-variants.{Nothing, Empty, Range, Cat, Alt, Star, Either}
-use Rattle.book.specs.Book.{Rule, takes, total, writeNode, writeNodes, writeRule, writeRules}
-use Rattle.book.specs.Reads.{readAfter, readNode, readNodes, readRules}
+use Rattle.book.specs.Book.{Rule, codeOf, takes, total, writeFields, writeNode, writeNodes, writeRule, writeRules}
+use Rattle.book.specs.Reads.{readRange, readEither, readAfter, readNode, moreNodes, moreRules}
 use Rattle.book.specs.Valid.{Within, Leaves, AllValid}
 use Rattle.book.specs.ReadLawsSteps.{first, second, past-both}
 
--- a node's code
-code-read : (file : List ℕ) (v code at : ℕ) (t : List ℕ) → code ≤ lastCode v → drop at file ≡ writeNumber code ++ t
-    → field file 0 (lastCode v) at ≡ got code (at + length (writeNumber code))
-code-read file v code at t h e = field-written code file 0 (lastCode v) at t (omega arith) (omega arith) h e
-
-pub node-written : (file : List ℕ) (v : ℕ) (n : Node) (at : ℕ) (t : List ℕ) → Within n → drop at file ≡ writeNode n ++ t
-    → readNode file v at ≡ got n (at + length (writeNode n))
-unfolding readNode readAfter writeNode
-node-written file v Nothing at t w e = rw (code-read file v 0 at t (omega arith) e)
-node-written file v Empty at t w e = rw (code-read file v 1 at t (omega arith) e)
-node-written file v (Range lo hi) at t w e =
-    let code : List ℕ = writeNumber 2 in
+-- a node's numbers, behind its code
+fields-written : (file : List ℕ) (v : ℕ) (n : Node) (start at : ℕ) (t : List ℕ) → Within v n → drop at file ≡ writeFields n ++ t
+    → readAfter file v start (codeOf n) at ≡ got n (at + length (writeFields n))
+unfolding readAfter readRange readEither
+fields-written file v Nothing start at t w e = rw (w .0) (ap (got Nothing) (omega arith))
+fields-written file v Empty start at t w e = rw (w .0) (ap (got Empty) (omega arith))
+fields-written file v (Range lo hi) start at t w e =
     let low : List ℕ = writeNumber lo in
     let high : List ℕ = writeNumber hi in
-    let e0 = first file at code (low ++ high) t e in
-    let e1 = second file at code (low ++ high) t e in
-    let e2 = first file (at + length code) low high t e1 in
-    let e3 = second file (at + length code) low high t e1 in
     rw (
-      code-read file v 2 at _ (omega arith) e0,
-      field-written lo file 0 lastByte (at + length code) _ (omega arith) (omega arith) (omega arith) e2,
-      field-written hi file lo lastByte (at + length code + length low) t (omega arith) (w .0) (w .1) e3,
+      w .0,
+      field-written lo file 0 lastByte at _ (omega arith) (omega arith) (omega arith) (first file at low high t e),
+      field-written hi file lo lastByte (at + length low) t (omega arith) (w .1 .0) (w .1 .1) (second file at low high t e),
     )
-    (ap (got (Range lo hi)) (past-both (at + length code) low high ∙ past-both at code (low ++ high)))
-node-written file v Cat at t w e = rw (code-read file v 3 at t (omega arith) e)
-node-written file v Alt at t w e = rw (code-read file v 4 at t (omega arith) e)
-node-written file v Star at t w e = rw (code-read file v 5 at t (omega arith) e)
-node-written file v (Either x) at t w e =
-    let code : List ℕ = writeNumber 6 in
-    let letter : List ℕ = writeNumber x in
-    let e0 = first file at code letter t e in
-    let e1 = second file at code letter t e in
-    rw (
-      code-read file v 6 at _ (omega arith) e0,
-      field-written x file firstLetter lastLetter (at + length code) t (omega arith) (w .0) (w .1) e1,
-    )
-    (ap (got (Either x)) (past-both at code letter))
+    (ap (got (Range lo hi)) (past-both at low high))
+fields-written file v Cat start at t w e = rw (w .0) (ap (got Cat) (omega arith))
+fields-written file v Alt start at t w e = rw (w .0) (ap (got Alt) (omega arith))
+fields-written file v Star start at t w e = rw (w .0) (ap (got Star) (omega arith))
+fields-written file v (Either x) start at t w e = rw (w .0, field-written x file firstLetter lastLetter at t (omega arith) (w .1 .0) (w .1 .1) e)
 
-pub nodes-written : (file : List ℕ) (v : ℕ) (ns : List Node) (terms at : ℕ) (t : List ℕ) → Leaves terms ns
-    → drop at file ≡ writeNodes ns ++ t → readNodes file v (length ns) terms at ≡ got ns (at + length (writeNodes ns))
-unfolding readNodes writeNodes
+-- a code is one byte
+pub code-small : (n : Node) → codeOf n < group
+code-small Nothing = omega arith
+code-small Empty = omega arith
+code-small (Range lo hi) = omega arith
+code-small Cat = omega arith
+code-small Alt = omega arith
+code-small Star = omega arith
+code-small (Either x) = omega arith
+
+pub node-written : (file : List ℕ) (v : ℕ) (n : Node) (at : ℕ) (t : List ℕ) → Within v n → drop at file ≡ writeNode n ++ t
+    → readNode file v at ≡ got n (at + length (writeNode n))
+unfolding readNode writeNode
+node-written file v n at t w e =
+    let code : List ℕ = writeNumber (codeOf n) in
+    let rest : List ℕ = writeFields n in
+    rw (
+      read-written (codeOf n) file at _ (omega (arith, code-small n)) (first file at code rest t e),
+      fields-written file v n at (at + length code) t w (second file at code rest t e),
+    )
+    (ap (got n) (past-both at code rest))
+
+pub nodes-written : (file : List ℕ) (v : ℕ) (ns : List Node) (terms at : ℕ) (t : List ℕ) → Leaves v terms ns
+    → drop at file ≡ writeNodes ns ++ t → moreNodes file v (length ns) terms at ≡ got ns (at + length (writeNodes ns))
+unfolding moreNodes writeNodes
 nodes-written file v [] terms at t h e = rw (eq-eqb terms 1 h) (ap (got []) (omega arith))
 nodes-written file v (n ∷ ns) terms at t h e =
     let v1 : List ℕ = writeNode n in
@@ -69,9 +73,9 @@ nodes-written file v (n ∷ ns) terms at t h e =
     )
     (ap (got (n ∷ ns)) (past-both at v1 v2))
 
-pub rules-written : (file : List ℕ) (v : ℕ) (rs : List Rule) (used at : ℕ) (t : List ℕ) → AllValid rs → used + total rs ≤ nodes
-    → drop at file ≡ writeRules rs ++ t → readRules file v (length rs) used at ≡ got rs (at + length (writeRules rs))
-unfolding readRules writeRules writeRule total
+pub rules-written : (file : List ℕ) (v : ℕ) (rs : List Rule) (used at : ℕ) (t : List ℕ) → AllValid v rs → used + total rs ≤ nodes
+    → drop at file ≡ writeRules rs ++ t → moreRules file v (length rs) used at ≡ got rs (at + length (writeRules rs))
+unfolding moreRules writeRules writeRule total
 rules-written file v [] used at t h small e = ap (got []) (omega arith)
 rules-written file v (r ∷ rs) used at t h small e =
     let m : ℕ = length (r .nodes) in

@@ -8,7 +8,8 @@ use Rattle.number.specs.Numbers.{due, several, readNumber, within, field}
 use Rattle.number.specs.Refused.{Row, rowRead}
 use Rattle.number.specs.Refused.Row.{noRow, row}
 use Rattle.number.specs.Sample.{repeated}
-use Rattle.book.specs.Reads.{readAfter, readNode, readNodes, readRules, book, readBook}
+use Rattle.book.specs.Book.{allowed}
+use Rattle.book.specs.Reads.{readRange, readEither, readAfter, readNode, moreNodes, moreRules, book, readBook}
 use Rattle.book.specs.Sample.{wBytes}
 
 -- a file, and the row that the table has for it
@@ -194,5 +195,5 @@ lines =
     []
 
 pub lines-told : map told lines ≡ map stated lines
-unfolding lines repeated wBytes book readRules readNodes readNode readAfter field within readNumber several due
+unfolding lines repeated wBytes book moreRules moreNodes readNode readAfter readRange readEither allowed field within readNumber several due
 lines-told = refl

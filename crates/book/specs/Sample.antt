@@ -9,8 +9,8 @@ use Rattle.number.specs.Refused.Answer.{got}
 use Rattle.meaning.specs.Sample.{W}
 use Rattle.book.specs.declared.Node.{Node}
 use Rattle.book.specs.declared.Node.the-variants.{Range, Cat, Star}
-use Rattle.book.specs.Book.{Book, writeNode, writeNodes, writeRule, writeRules, writeBook}
-use Rattle.book.specs.Reads.{readAfter, readNode, readNodes, readRules, book, readBook}
+use Rattle.book.specs.Book.{Book, allowed, writeNode, writeNodes, writeRule, writeRules, writeBook}
+use Rattle.book.specs.Reads.{readRange, readAfter, readNode, moreNodes, moreRules, book, readBook}
 use Rattle.book.specs.Expression.{stacked, runNodes, meant}
 
 unfoldable pub wBytes : List ℕ
@@ -41,7 +41,7 @@ unfolding wBytes
 w-length = refl
 
 pub w-reads : readBook wBytes ≡ got wBook 36
-unfolding wBytes wBook book readRules readNodes readNode readAfter field within readNumber several due
+unfolding wBytes wBook book moreRules moreNodes readNode readAfter readRange allowed field within readNumber several due
 w-reads = refl
 
 pub w-writes : writeBook wBook ≡ wBytes

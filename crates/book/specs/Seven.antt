@@ -8,8 +8,8 @@ use Rattle.number.specs.Numbers.{due, several, readNumber, within, field, write
 use Rattle.number.specs.Refused.Answer.{got}
 use Rattle.meaning.specs.Re.{Re}
 use Rattle.book.specs.declared.Node.the-variants.{Nothing, Empty, Range, Cat, Alt, Star, Either}
-use Rattle.book.specs.Book.{Book, writeNode, writeNodes, writeRule, writeRules, writeBook}
-use Rattle.book.specs.Reads.{readAfter, readNode, readNodes, readRules, book, readBook}
+use Rattle.book.specs.Book.{Book, allowed, writeNode, writeNodes, writeRule, writeRules, writeBook}
+use Rattle.book.specs.Reads.{readRange, readEither, readAfter, readNode, moreNodes, moreRules, book, readBook}
 use Rattle.book.specs.Expression.{stacked, runNodes, meant}
 
 -- the letters of `if` in either case; digits and bytes from 128 on, none or more; the byte 200 behind nothing; `a`, or `b` and then `c`s; any byte
@@ -50,7 +50,7 @@ unfolding sevenBytes
 seven-length = refl
 
 pub seven-reads : readBook sevenBytes ≡ got sevenBook 55
-unfolding sevenBytes sevenBook book readRules readNodes readNode readAfter field within readNumber several due
+unfolding sevenBytes sevenBook book moreRules moreNodes readNode readAfter readRange readEither allowed field within readNumber several due
 seven-reads = refl
 
 pub seven-writes : writeBook sevenBook ≡ sevenBytes

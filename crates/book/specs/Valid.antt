@@ -2,40 +2,53 @@
 -- ReadLaws proves that exactly these are read, from exactly the bytes that would be written.
 use Prim.Native.Nat.{ℕ, _+_, _-_, _≤_}
 use mathlib.Core.Path.{_≡_}
+use mathlib.Core.Bool.{true}
 use mathlib.Core.List.{List, [], _∷_}
 use lib.ListN.{length}
-use Rattle.number.specs.Limits.{version, lastVersion, rules, kinds, nodes, lastByte, firstLetter, lastLetter}
+use Rattle.number.specs.Limits.{firstVersion, lastVersion, rules, kinds, nodes, lastByte, firstLetter, lastLetter}
 use Rattle.book.specs.declared.Node.{Node}
 use Rattle.book.specs.declared.Node.the-variants.{Nothing, Empty, Range, Cat, Alt, Star, Either}
-use Rattle.book.specs.Book.{Rule, Book, takes, total}
+use Rattle.book.specs.Book.{Rule, Book, codeOf, allowed, takes, total}
+
+-- books of version v have that code
+abbrev pub Allowed : ℕ → ℕ → Type 0
+Allowed v code = allowed v code ≡ true
 
 -- the numbers that a node carries are within their fields
-abbrev pub Within : Node → Type 0
-Within Nothing = Unit
-Within Empty = Unit
-Within (Range lo hi) = (lo ≤ hi) × (hi ≤ lastByte)
-Within Cat = Unit
-Within Alt = Unit
-Within Star = Unit
-Within (Either x) = (firstLetter ≤ x) × (x ≤ lastLetter)
+abbrev pub InFields : Node → Type 0
+InFields Nothing = Unit
+InFields Empty = Unit
+InFields (Range lo hi) = (lo ≤ hi) × (hi ≤ lastByte)
+InFields Cat = Unit
+InFields Alt = Unit
+InFields Star = Unit
+InFields (Either x) = (firstLetter ≤ x) × (x ≤ lastLetter)
+
+-- a book of version v may have that node
+abbrev pub Within : ℕ → Node → Type 0
+Within v n = Allowed v (codeOf n) × InFields n
 
 -- so many terms stand: each node finds its terms, and one term is left
-abbrev pub Leaves : ℕ → List Node → Type 0
-Leaves terms [] = terms ≡ 1
-Leaves terms (n ∷ ns) = Within n × (takes n ≤ terms) × Leaves (terms - takes n + 1) ns
+abbrev pub Leaves : ℕ → ℕ → List Node → Type 0
+Leaves v terms [] = terms ≡ 1
+Leaves v terms (n ∷ ns) = Within v n × (takes n ≤ terms) × Leaves v (terms - takes n + 1) ns
 
-pub record ValidRule (r : Rule) : Type 0 where
+pub record ValidRule (v : ℕ) (r : Rule) : Type 0 where
   pub kind-fits : r .kind ≤ kinds
   pub some : 1 ≤ length (r .nodes)
-  pub leaves : Leaves 0 (r .nodes)
+  pub leaves : Leaves v 0 (r .nodes)
 
-abbrev pub AllValid : List Rule → Type 0
-AllValid [] = Unit
-AllValid (r ∷ rs) = ValidRule r × AllValid rs
+abbrev pub AllValid : ℕ → List Rule → Type 0
+AllValid v [] = Unit
+AllValid v (r ∷ rs) = ValidRule v r × AllValid v rs
+
+-- there are books of that version
+abbrev pub Known : ℕ → Type 0
+Known v = (firstVersion ≤ v) × (v ≤ lastVersion)
 
 pub record ValidBook (b : Book) : Type 0 where
-  pub known : (version ≤ b .version) × (b .version ≤ lastVersion)
+  pub known : Known (b .version)
   pub some : 1 ≤ length (b .rules)
   pub few : length (b .rules) ≤ rules
-  pub valid : AllValid (b .rules)
+  pub valid : AllValid (b .version) (b .rules)
   pub small : total (b .rules) ≤ nodes

@@ -1,17 +1,23 @@
 // Rule books: the types that calls on books answer with, and the nodes of a rule read one by one.
 // Readers take any bytes and promise the paper's answer for each; books are checked in the crate checking, their rules found in places.
 ghost use mathlib.Core.Path.{_≡_};
-ghost use Rattle.number.specs.Limits.{lastCode};
 ghost use Rattle.book.specs.Book.{takes as takesOf};
-ghost use Rattle.book.specs.Reads.{readAfter, readNode};
+ghost use Rattle.book.specs.Reads.{readRange, readEither, readAfter, readNode};
 ghost use Rattle.book.specs.Answers.{nodeRead, refusalOf};
 use number::Refusal;
 use number::Taken;
+use number::limits::CODE_ALT;
+use number::limits::CODE_CAT;
+use number::limits::CODE_EITHER;
+use number::limits::CODE_EMPTY;
+use number::limits::CODE_NOTHING;
+use number::limits::CODE_RANGE;
+use number::limits::CODE_STAR;
 use number::limits::FIRST_LETTER;
 use number::limits::LAST_BYTE;
-use number::limits::LAST_CODE;
 use number::limits::LAST_LETTER;
 use number::read_field;
+use number::read_number;
 
 // A node of a rule, in postfix order: one of seven kinds.
 pub enum Node {
@@ -43,8 +49,9 @@ pub enum NodeRead {
     Refused(Refusal),
 }
 
-// A rule's kind, how many nodes it has, and the place of the first.
+// Its book's version, a rule's kind, how many nodes it has, and the place of the first.
 pub struct RulePlace {
+    pub version: usize,
     pub kind: usize,
     pub nodes: usize,
     pub at: usize,
@@ -60,12 +67,11 @@ pub enum PlaceRead {
 pub fn read_node(book: &[u8], at: usize, version: usize) -> NodeRead
     ensures { λ r. ⌜ nodeRead r ≡ readNode (now (book .entry)) version at ⌝ }
 {
-    let last = last_code(version);
-    let code = read_field(book, at, 0, last);
-    let Taken::Value(kind, next) = code else {
-        return NodeRead::Refused(refusal_of(code));
+    let number = read_number(book, at).taken;
+    let Taken::Value(code, next) = number else {
+        return NodeRead::Refused(refusal_of(number));
     };
-    read_after(book, next, kind)
+    read_after(book, next, version, at, code)
 }
 
 // How many terms a node takes off the stack; each leaves one.
@@ -93,16 +99,9 @@ pub fn refusal_of(t: Taken) -> Refusal
     }
 }
 
-// The last node code of a version's books: versions to come may have more, so callers hand theirs in.
-fn last_code(version: usize) -> usize
-    ensures { λ r. ⌜ r ≡ lastCode version ⌝ }
-{
-    LAST_CODE
-}
-
 // The bounds of a range: the second's field begins at the first, which refuses hi below lo at hi's own place.
 fn read_range(book: &[u8], at: usize) -> NodeRead
-    ensures { λ r. ⌜ nodeRead r ≡ readAfter (now (book .entry)) 2 at ⌝ }
+    ensures { λ r. ⌜ nodeRead r ≡ readRange (now (book .entry)) at ⌝ }
 {
     let first = read_field(book, at, 0, LAST_BYTE);
     let Taken::Value(lo, next) = first else {
@@ -116,8 +115,8 @@ fn read_range(book: &[u8], at: usize) -> NodeRead
 }
 
 // The letter of an Either.
-fn read_letter(book: &[u8], at: usize) -> NodeRead
-    ensures { λ r. ⌜ nodeRead r ≡ readAfter (now (book .entry)) 6 at ⌝ }
+fn read_either(book: &[u8], at: usize) -> NodeRead
+    ensures { λ r. ⌜ nodeRead r ≡ readEither (now (book .entry)) at ⌝ }
 {
     let letter = read_field(book, at, FIRST_LETTER, LAST_LETTER);
     let Taken::Value(x, after) = letter else {
@@ -126,17 +125,18 @@ fn read_letter(book: &[u8], at: usize) -> NodeRead
     NodeRead::At(Node::Either(x), after)
 }
 
-// What stands after a node's code; a code that is too high never comes here.
-fn read_after(book: &[u8], at: usize, code: usize) -> NodeRead
-    ensures { λ r. ⌜ nodeRead r ≡ readAfter (now (book .entry)) code at ⌝ }
+// What stands after each code, if the version has it; a number that is none is refused where it starts.
+fn read_after(book: &[u8], at: usize, version: usize, start: usize, code: usize) -> NodeRead
+    ensures { λ r. ⌜ nodeRead r ≡ readAfter (now (book .entry)) version start code at ⌝ }
 {
     match code {
-        0 => NodeRead::At(Node::Nothing, at),
-        1 => NodeRead::At(Node::Empty, at),
-        2 => read_range(book, at),
-        3 => NodeRead::At(Node::Cat, at),
-        4 => NodeRead::At(Node::Alt, at),
-        5 => NodeRead::At(Node::Star, at),
-        _ => read_letter(book, at),
+        CODE_NOTHING => NodeRead::At(Node::Nothing, at),
+        CODE_EMPTY => NodeRead::At(Node::Empty, at),
+        CODE_RANGE => read_range(book, at),
+        CODE_CAT => NodeRead::At(Node::Cat, at),
+        CODE_ALT => NodeRead::At(Node::Alt, at),
+        CODE_STAR => NodeRead::At(Node::Star, at),
+        CODE_EITHER => read_either(book, at),
+        _ => NodeRead::Refused(Refusal::Range(start)),
     }
 }

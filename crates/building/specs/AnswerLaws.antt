@@ -24,20 +24,21 @@ use Rattle.table.specs.declared.Counted.the-variants.{States, Refused}
 use Rattle.table.specs.Table.{Table}
 use Rattle.table.specs.Calls.{padded, Filled, filledWith}
 use Rattle.walk.specs.Vectors.{normalised}
-use Rattle.walk.specs.Vectors.Vector.{TooLong}
+use Rattle.walk.specs.Vectors.Vector.{TooLong, Terms}
 use Rattle.walk.specs.Walk.{rows, onFrom, beginBy, walkFrom}
 use Rattle.vector.specs.Layout.{workLength}
+use Rattle.vector.specs.Vectors.{vectorOf}
 use Rattle.vector.specs.Memory.{heldOf}
 use Rattle.steps.specs.declared.Stepped.{Stepped}
 use Rattle.steps.specs.declared.Stepped.the-variants.{Reached, Stopped}
-use Rattle.steps.specs.Step.{First, Begins}
+use Rattle.steps.specs.Step.{Begins}
 use Rattle.steps.specs.CallLaws.{went, halts}
-use Rattle.start.specs.Start.{rulesIn, Opened, First as Started}
+use Rattle.start.specs.Start.{rulesIn, Opened}
 use Rattle.built.specs.Build.{alone, builtOf, buildRules}
 use Rattle.built.specs.Calls.{buildRead, buildBook, filledBy, Building, buildOf}
 use Rattle.row.specs.Fill.{Fillable}
 use Rattle.filled.specs.Tabled.{Fronted, TableComes, Tabled}
-use Rattle.building.specs.Promises.{Roomy, Builds}
+use Rattle.building.specs.Promises.{Builds}
 
 -- an outcome by another name
 pub tabled-as : {o : Outcome Table} {l t : List ℕ} {r : Counted} (p : Outcome Table) → Tabled o l t r → o ≡ p → Tabled p l t r
@@ -54,28 +55,24 @@ module _ (file : List ℕ) where
   unfolding buildRules walkFrom
   rules-long e = record { comes = ap (λ v. builtOf (onFrom alone (beginBy alone v))) e }
 
-  module _ {n : ℕ} {s : List ℕ} {top : ℕ} {v : List ℕ} (f : Started file n s top v) where
-    pub rules-first : First s n top v
-    rules-first = record { kept = f .kept; numbers = f .numbers; holds = f .holds }
+  module _ {n : ℕ} {s v : List ℕ} (terms : normalised (rulesIn file) ≡ Terms (vectorOf s n v)) {s₁ : List ℕ} {r : Stepped} (x : Begins s n v s₁ r) where
+    pub rules-stop : {q : Refusal} {l t : List ℕ} → r ≡ Stopped q → Tabled (buildRules (rulesIn file)) l t (Refused q)
+    unfolding buildRules walkFrom
+    rules-stop e =
+        let m = x .begins alone (omega arith) refl in
+        record { comes = ap (λ w. builtOf (onFrom alone (beginBy alone w))) terms ∙ ap (λ w. builtOf (onFrom alone w)) (halts m e) }
 
-    module _ {s₁ : List ℕ} {r : Stepped} (x : Begins s n v s₁ r) where
-      pub rules-stop : {q : Refusal} {l t : List ℕ} → r ≡ Stopped q → Tabled (buildRules (rulesIn file)) l t (Refused q)
+    module _ {top count j : ℕ} (e : r ≡ Reached top count j) where
+      pub rules-fillable : {t : List ℕ} → tableCells ≤ length t → Fillable s₁ n top count t
+      rules-fillable room =
+          let m = went (x .begins alone (omega arith) refl) e in
+          record { kept = m .kept; low = m .low; few = m .few; room = room }
+
+      pub rules-table : builtOf (rows alone states 0 (heldOf s₁ n top count)) ≡ buildRules (rulesIn file)
       unfolding buildRules walkFrom
-      rules-stop e =
-          let m = x .begins alone (omega arith) refl in
-          record { comes = ap (λ w. builtOf (onFrom alone (beginBy alone w))) (f .terms) ∙ ap (λ w. builtOf (onFrom alone w)) (halts m e) }
-
-      module _ {top₁ count j : ℕ} (e : r ≡ Reached top₁ count j) where
-        pub rules-fillable : {t : List ℕ} → tableCells ≤ length t → Fillable s₁ n top₁ count t
-        rules-fillable room =
-            let m = went (x .begins alone (omega arith) refl) e in
-            record { kept = m .kept; low = m .low; few = m .few; room = room }
-
-        pub rules-table : builtOf (rows alone states 0 (heldOf s₁ n top₁ count)) ≡ buildRules (rulesIn file)
-        unfolding buildRules walkFrom
-        rules-table =
-            let m = went (x .begins alone (omega arith) refl) e in
-            sym (ap (λ w. builtOf (onFrom alone (beginBy alone w))) (f .terms) ∙ ap (λ w. builtOf (onFrom alone w)) (m .goes))
+      rules-table =
+          let m = went (x .begins alone (omega arith) refl) e in
+          sym (ap (λ w. builtOf (onFrom alone (beginBy alone w))) terms ∙ ap (λ w. builtOf (onFrom alone w)) (m .goes))
 
 -- ---- from a book to the table of its rules
 
@@ -84,10 +81,8 @@ module _ (file : List ℕ) {r : Checked} (x : checked r ≡ checkOf file) where
   book-refused {q} e = record { comes = ap buildRead (checked-refused file q (check-refusal-told x e)) }
 
   module _ {n sum : ℕ} (e : r ≡ Counts n sum) where
-    pub book-opened : {l t s : List ℕ} → Roomy l t s → Opened file n s
-    book-opened o =
-        let c = checked-counts file n sum (counts-told x e) in
-        record { book = c .b; after = c .after; read = c .read; many = c .many; long = o .long; small = o .small }
+    pub book-opened : Opened file n
+    book-opened = let c = checked-counts file n sum (counts-told x e) in record { book = c .b; after = c .after; read = c .read; many = c .many }
 
     pub book-table : buildRules (rulesIn file) ≡ buildBook file
     book-table = let c = checked-counts file n sum (counts-told x e) in rw (c .read)

@@ -28,7 +28,7 @@ fn build_rules(
     labels: &mut [u8],
     targets: &mut [u8],
 ) -> Counted
-    requires { ⌜ Opened (now book) n (now cells) ⌝ }
+    requires { ⌜ Opened (now book) n ⌝ }
     requires { ⌜ Roomy (now labels) (now targets) (now cells) ⌝ }
     ensures { λ r. ⌜ Tabled (buildRules (rulesIn (now (book .entry)))) (now (labels .exit)) (now (targets .exit)) r ⌝ }
 {

@@ -1,11 +1,10 @@
 -- A built table is right: after every text of bytes its label is the one that names the text by the book's rules.
 -- So a cut by a built table is the cut by the textbook: every word longest, under the earliest rule, and stuck exactly.
-use Prim.Native.Nat.{ℕ, _+_}
+use Prim.Native.Nat.{ℕ}
 use mathlib.Core.Path.{_≡_, refl, sym, ap, subst, _∙_}
 use mathlib.Core.List.{List}
 use native.Mathlib.Omega.{arith}
-use lib.ListN.{take, drop, length-take, length-drop, List·getD-map}
-use lib.Seq.{getD-take, getD-drop}
+use lib.ListN.{take, List·getD-map}
 use Rattle.number.specs.declared.Refusal.{Refusal}
 use Rattle.number.specs.Numbers.{Bytes}
 use Rattle.number.specs.Refused.{Outcome}
@@ -18,7 +17,7 @@ use Rattle.meaning.specs.WordsMean.{first-alike}
 use Rattle.table.specs.Table.{Table}
 use Rattle.cutting.specs.Steps.{labelAt, labelOf, Labels, FirstBy, firstBy}
 use Rattle.cutting.specs.Cut.{Cuts, cutBy}
-use Rattle.cutting.specs.CutLaws.{first-by, cut-is, cut-alike}
+use Rattle.cutting.specs.CutLaws.{by-table, cut-is, cut-alike, bytes-take, bytes-drop}
 use Rattle.walk.specs.Walk.{Item, none, Held, Walked, walkFrom}
 use Rattle.walk.specs.Walk.Walked.{halted, walked}
 use Rattle.walk.specs.StepLaws.{item}
@@ -67,20 +66,10 @@ build-names rs t e w b = rw (built-label rs t e w b) (names-after rs w)
 
 -- ---- cutting
 
-pub bytes-take : (m : ℕ) (w : Text) → Bytes w → Bytes (take m w)
-bytes-take m w b i l =
-    let n = length-take m w in
-    rw (getD-take m w i 0 (omega arith)) (b i (omega arith))
-
-pub bytes-drop : (n : ℕ) (w : Text) → Bytes w → Bytes (drop n w)
-bytes-drop n w b i l =
-    let m = length-drop n w in
-    rw (getD-drop n w i 0) (b (n + i) (omega arith))
-
 module _ (rs : List Re) (t : Table) (e : buildRules rs ≡ gives t) where
   built-first : (text : Text) → Bytes text → (f : Found) → FirstBy t text f → FirstWord rs text f
   built-first text b =
       first-alike (Labels t) (Names rs) text (λ m l h k p. subst (Names rs (take m text)) p (build-names rs t e (take m text) (bytes-take m text b)))
 
   pub build-cuts : (room at : ℕ) (text : Text) → Bytes text → Cuts (FirstWord rs) room at text (cutBy (firstBy t) room at text)
-  build-cuts room at text b = cut-alike (FirstBy t) (FirstWord rs) Bytes bytes-drop built-first b (cut-is (FirstBy t) (firstBy t) (first-by t) room at text)
+  build-cuts room at text b = cut-alike (FirstBy t) (FirstWord rs) Bytes bytes-drop built-first b (cut-is (by-table t) room at text)

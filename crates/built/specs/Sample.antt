@@ -14,7 +14,7 @@ use Rattle.meaning.specs.Derive.{nullable, deriv}
 use Rattle.meaning.specs.Limited.{derivFit, normalFit}
 use Rattle.meaning.specs.Rules.{labelFrom}
 use Rattle.book.specs.Sample.{wBytes, w-reads, w-means}
-use Rattle.table.specs.Sheet.{readRuns, readStates, sheet, readSheet}
+use Rattle.table.specs.Sheet.{moreRuns, moreStates, sheet, readSheet}
 use Rattle.table.specs.Sheet.{joined, runsOf, writeRuns, writeRow, writeStates, writeSheet}
 use Rattle.cutting.specs.Sample.{tableW}
 use Rattle.walk.specs.Vectors.{derived, normalised, sameVector}
@@ -48,5 +48,5 @@ unfolding wSheet writeSheet writeStates writeRow writeRuns runsOf joined writeNu
 w-written = refl
 
 pub w-read-back : readSheet wSheet ≡ got tableW 73
-unfolding wSheet sheet readStates readRuns field within readNumber due several
+unfolding wSheet sheet moreStates moreRuns field within readNumber due several
 w-read-back = refl

@@ -1,7 +1,7 @@
 // Rule books checked whole, and refused exactly where document 01 says.
-// The call takes any bytes and promises the paper's answer for each; two inner functions say what they ask, so that sums fit.
+// The call takes any bytes and promises the paper's answer for each; an inner function says what it asks, so that its sum fits.
 ghost use mathlib.Core.Path.{_≡_};
-ghost use Prim.Native.Nat.{_+_, _≤_};
+ghost use Prim.Native.Nat.{_≤_};
 ghost use lib.ListN.{length};
 ghost use Rattle.number.specs.Limits.{nodes};
 ghost use Rattle.number.specs.Numbers.{taken};
@@ -17,17 +17,18 @@ use book::refusal_of;
 use book::takes;
 use number::Refusal;
 use number::Taken;
+use number::limits::FIRST_VERSION;
 use number::limits::KINDS;
+use number::limits::LAST_VERSION;
 use number::limits::NODES;
 use number::limits::RULES;
-use number::limits::VERSION;
 use number::read_field;
 
 // How many rules the book has and how many nodes in all, or why it is refused.
 pub fn check_book(book: &[u8]) -> Checked
     ensures { λ r. ⌜ Checks (now (book .entry)) r ⌝ }
 {
-    let version = read_field(book, 0, VERSION, VERSION);
+    let version = read_field(book, 0, FIRST_VERSION, LAST_VERSION);
     let Taken::Value(v, at_rules) = version else {
         return Checked::Refused(refusal_of(version));
     };
@@ -35,7 +36,7 @@ pub fn check_book(book: &[u8]) -> Checked
     let Taken::Value(n, first) = rules else {
         return Checked::Refused(refusal_of(rules));
     };
-    let all = check_rules(book, first, v, n, 0);
+    let all = check_rules(book, first, v, n);
     let Taken::Value(nodes, after) = all else {
         return Checked::Refused(refusal_of(all));
     };
@@ -55,16 +56,16 @@ fn node_refusal(n: NodeRead) -> Refusal
     }
 }
 
-// So many nodes more, where so many terms stand: how many nodes those were, and the place after them.
-// The terms grow by one a node at most, so the limit on nodes keeps their count small.
+// The nodes of a rule, so many: how many nodes those were, and the place after them.
+// The terms that stand grow by one a node at most, so the limit on nodes keeps their count small.
 // Where none is refused, all that were asked for are read, so nothing is counted.
-pub fn check_nodes(book: &[u8], at: usize, version: usize, left: usize, terms: usize) -> Taken
-    requires { ⌜ terms + left ≤ nodes ⌝ }
-    ensures { λ r. ⌜ taken r ≡ mapAnswer length (readNodes (now (book .entry)) version left terms at) ⌝ }
+pub fn check_nodes(book: &[u8], at: usize, version: usize, count: usize) -> Taken
+    requires { ⌜ count ≤ nodes ⌝ }
+    ensures { λ r. ⌜ taken r ≡ mapAnswer length (readNodes (now (book .entry)) version count at) ⌝ }
 {
     let mut place = at;
-    let mut more = left;
-    let mut standing = terms;
+    let mut more = count;
+    let mut standing = 0;
     while 0 < more {
         let node = read_node(book, place, version);
         let NodeRead::At(n, next) = node else {
@@ -79,33 +80,32 @@ pub fn check_nodes(book: &[u8], at: usize, version: usize, left: usize, terms: u
         place = next;
     }
     if standing == 1 {
-        return Taken::Value(left, place);
+        return Taken::Value(count, place);
     }
     Taken::Refused(Refusal::Stack(place))
 }
 
-// So many rules more, where so many nodes have been read: how many nodes they have, and the place after them.
-// The sum goes on from those. It is tested as each count is read, before the nodes are, and refused at that count.
-fn check_rules(book: &[u8], at: usize, version: usize, left: usize, used: usize) -> Taken
-    requires { ⌜ used ≤ nodes ⌝ }
-    ensures { λ r. ⌜ taken r ≡ mapAnswer total (readRules (now (book .entry)) version left used at) ⌝ }
+// The rules of a book, so many: how many nodes they have, and the place after them.
+// The sum is tested as each count is read, before the nodes are, and refused at that count.
+fn check_rules(book: &[u8], at: usize, version: usize, count: usize) -> Taken
+    ensures { λ r. ⌜ taken r ≡ mapAnswer total (readRules (now (book .entry)) version count at) ⌝ }
 {
     let mut place = at;
-    let mut more = left;
-    let mut sum = used;
+    let mut more = count;
+    let mut sum = 0;
     while 0 < more {
         let kind = read_field(book, place, 0, KINDS);
         let Taken::Value(_, at_count) = kind else {
             return kind;
         };
-        let count = read_field(book, at_count, 1, NODES);
-        let Taken::Value(m, first) = count else {
-            return count;
+        let size = read_field(book, at_count, 1, NODES);
+        let Taken::Value(m, first) = size else {
+            return size;
         };
         if NODES < sum + m {
             return Taken::Refused(Refusal::Range(at_count));
         }
-        let nodes = check_nodes(book, first, version, m, 0);
+        let nodes = check_nodes(book, first, version, m);
         let Taken::Value(_, next) = nodes else {
             return nodes;
         };
@@ -113,5 +113,5 @@ fn check_rules(book: &[u8], at: usize, version: usize, left: usize, used: usize)
         more -= 1;
         place = next;
     }
-    Taken::Value(sum - used, place)
+    Taken::Value(sum, place)
 }

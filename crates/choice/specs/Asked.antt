@@ -1,32 +1,25 @@
--- What the choice of two terms asks of the work area and of the terms, and how many cells it may use: the contracts are stated with these.
--- Every count is of terms, so that a caller can add up its own.
-use Prim.Native.Nat.{ℕ, _+_, _-_, _/_, _<_}
+-- What a choice, and the merge of two terms' members by any operator that sorts them, ask of the work area and of the terms: the contracts are
+-- stated with these. Every count of cells is of terms, so that a caller can add up its own.
+use Prim.Native.Nat.{ℕ, _+_, _-_, _<_}
 use mathlib.Core.Path.{_≡_}
 use mathlib.Core.Bool.{true, false, cond, _||_}
 use mathlib.Core.List.{List}
-use lib.ListN.{length}
-use Rattle.number.specs.Limits.{treeNodes}
+use Rattle.meaning.specs.declared.Join.{Join}
+use Rattle.meaning.specs.declared.Join.the-variants.{Or}
 use Rattle.meaning.specs.Re.{Re, isNothing}
-use Rattle.meaning.specs.Normal.{gathered, alt}
+use Rattle.meaning.specs.Normal.{alt}
 use Rattle.meaning.specs.Limited.{short}
-use Rattle.meaning.specs.Shape.{InShape}
+use Rattle.meaning.specs.Shape.{InShape, Sorts}
 use Rattle.term.specs.Cells.{term, Sound}
 use Rattle.term.specs.Area.{pending, Room}
-
--- the members of a choice
-abbrev pub members : Re → ℕ
-members r = length (gathered r)
-
--- the most members that a short term can have
-abbrev pub mostMembers : ℕ
-mostMembers = (treeNodes + 1) / 2
+use Rattle.normal.specs.Asked.{members}
 
 -- the cells that alt uses: none where a side is Nothing, else fewer than the choice has members
 unfoldable pub altCells : Re → Re → ℕ
-altCells a b = cond (isNothing a || isNothing b) 0 (members (alt a b) - 1)
+altCells a b = cond (isNothing a || isNothing b) 0 (members Or (alt a b) - 1)
 
--- two terms to choose from, each of which fits
-pub record Choices (s : List ℕ) (top a b : ℕ) : Type 0 where
+-- two terms to join, each of which fits
+pub record Sides (k : Join) (s : List ℕ) (top a b : ℕ) : Type 0 where
   pub sound : Sound s top
   pub left : a < top
   pub right : b < top
@@ -34,26 +27,33 @@ pub record Choices (s : List ℕ) (top a b : ℕ) : Type 0 where
   pub right-shape : InShape (term s b)
   pub left-short : short (term s a) ≡ true
   pub right-short : short (term s b) ≡ true
-  pub room : Room s top (members (term s a) + members (term s b))
+  pub room : Room s top (members k (term s a) + members k (term s b))
 
 -- with room to count what comes of them
-pub record ShortChoices (s : List ℕ) (top a b : ℕ) : Type 0 where
-  pub choices : Choices s top a b
-  pub count-room : Room s top (members (term s a) + members (term s b) + pending)
+pub record CountedSides (k : Join) (s : List ℕ) (top a b : ℕ) : Type 0 where
+  pub sides : Sides k s top a b
+  pub count-room : Room s top (members k (term s a) + members k (term s b) + pending)
 
--- two choices to go along, each of which fits, and neither of which is Nothing
-pub record Meets (s : List ℕ) (a b : ℕ) : Type 0 where
+-- a term that goes into a merge: it fits, and is not Nothing
+pub record Enters (s : List ℕ) (i : ℕ) : Type 0 where
+  pub in-shape : InShape (term s i)
+  pub is-short : short (term s i) ≡ true
+  pub some : isNothing (term s i) ≡ false
+
+-- two of them, whose first members are to be compared
+pub record Meets (k : Join) (s : List ℕ) (a b : ℕ) : Type 0 where
+  pub sorts : Sorts k
   pub left-sound : Sound s (a + 1)
   pub right-sound : Sound s (b + 1)
-  pub left-shape : InShape (term s a)
-  pub right-shape : InShape (term s b)
-  pub left-short : short (term s a) ≡ true
-  pub right-short : short (term s b) ≡ true
-  pub left-some : isNothing (term s a) ≡ false
-  pub right-some : isNothing (term s b) ≡ false
+  pub left : Enters s a
+  pub right : Enters s b
 
--- two choices to merge, neither of which is Nothing
-pub record Unites (s : List ℕ) (top a b : ℕ) : Type 0 where
-  pub choices : Choices s top a b
-  pub left-some : isNothing (term s a) ≡ false
-  pub right-some : isNothing (term s b) ≡ false
+-- two of them to merge
+pub record Unites (k : Join) (s : List ℕ) (top a b : ℕ) : Type 0 where
+  pub sorts : Sorts k
+  pub sound : Sound s top
+  pub left-held : a < top
+  pub right-held : b < top
+  pub left : Enters s a
+  pub right : Enters s b
+  pub room : Room s top (members k (term s a) + members k (term s b))

@@ -2,6 +2,7 @@
 -- A term in normal form is made of terms in normal form; nothing below the old top changes.
 use Prim.Native.Nat.{ℕ, _-_}
 use mathlib.Core.List.{List}
+use Rattle.meaning.specs.declared.Join.{Join}
 use Rattle.meaning.specs.Normal.{alt}
 use Rattle.meaning.specs.Limited.{fit}
 use Rattle.meaning.specs.Shape.{united}
@@ -10,12 +11,13 @@ use Rattle.term.specs.Area.{Makes}
 use Rattle.normal.specs.declared.Built.{Built}
 use Rattle.normal.specs.declared.Made.{Made}
 use Rattle.normal.specs.Made.{MadeBy}
-use Rattle.choice.specs.Asked.{members, altCells}
+use Rattle.normal.specs.Asked.{members}
+use Rattle.choice.specs.Asked.{altCells}
 
--- two choices merged: one node a member at most, and none for the last
-abbrev pub United : List ℕ → ℕ → ℕ → ℕ → List ℕ → Built → Type 0
-United s top a b s′ r =
-    Makes s top s′ (r .root) (r .top) (united (term s a) (term s b)) (members (united (term s a) (term s b)) - 1)
+-- the members of two terms, merged: one node a member at most, and none for the last
+abbrev pub United : Join → List ℕ → ℕ → ℕ → ℕ → List ℕ → Built → Type 0
+United k s top a b s′ r =
+    Makes s top s′ (r .root) (r .top) (united k (term s a) (term s b)) (members k (united k (term s a) (term s b)) - 1)
 
 abbrev pub Alts : List ℕ → ℕ → ℕ → ℕ → List ℕ → Built → Type 0
 Alts s top a b s′ r = Makes s top s′ (r .root) (r .top) (alt (term s a) (term s b)) (altCells (term s a) (term s b))

@@ -1,8 +1,7 @@
 -- The choice of two terms in the work area: Asked, Merge and Builds are definitions, the other files prove laws that the code's proofs cite.
--- What alt and the merge of two choices are is meaning's to say.
+-- The merge is over the operator that joins the members. What alt and the merge are is meaning's to say.
 pub mod Asked
 pub mod Merge
 pub mod Builds
-pub mod NodeLaws
 pub mod MergeLaws
 pub mod UniteLaws

@@ -108,7 +108,9 @@ module _ (file : List ℕ) (m : ℕ) (labels targets area : List ℕ) (blank : B
       loaded-comparable s long small =
           let c = checked-counts file n sum counted in
           record {
-            opened = record { book = c .b; after = c .after; read = c .read; many = c .many; long = long; small = small };
+            opened = record { book = c .b; after = c .after; read = c .read; many = c .many };
+            long = long;
+            small = small;
             closed = rw cut-targets (λ i h. omega (arith, formed .target i h, formed .filled));
             some = rw cut-labels (omega (arith, formed .some, formed .labelled));
             rows = rw (cut-labels, cut-targets) (omega (arith, formed .labelled, formed .filled));

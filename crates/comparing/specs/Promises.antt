@@ -6,10 +6,11 @@ use mathlib.Core.Bool.{cond}
 use mathlib.Core.List.{List}
 use lib.ListN.{length}
 use Rattle.number.specs.declared.Refusal.the-variants.{Loaded}
-use Rattle.number.specs.Limits.{bytes}
+use Rattle.number.specs.Limits.{bytes, workCells}
 use Rattle.number.specs.Refused.{Outcome, rowOf}
 use Rattle.number.specs.Refused.Outcome.{refuses}
 use Rattle.table.specs.Table.{Table, lent, wellFormed}
+use Rattle.vector.specs.Layout.{workLength}
 use Rattle.start.specs.Start.{rulesIn, Opened}
 use Rattle.verdict.specs.declared.Compared.{Compared}
 use Rattle.verdict.specs.Compare.{Verdict, compareRules}
@@ -19,7 +20,9 @@ use Rattle.verdict.specs.Calls.{compared, compareBook, compareOf}
 
 -- a book that is read, and a table's labels and targets, are to be compared
 pub record Comparable (file : List ℕ) (n : ℕ) (labels targets area s : List ℕ) : Type 0 where
-  pub opened : Opened file n s
+  pub opened : Opened file n
+  pub long : workLength ≤ length s
+  pub small : length s ≤ workCells
   pub closed : Closed targets
   pub some : 1 ≤ length labels
   pub rows : length targets ≡ length labels * bytes

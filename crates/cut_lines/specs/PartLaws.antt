@@ -18,12 +18,13 @@ use Rattle.table.specs.Table.{Table, lent, wellFormed}
 use Rattle.cutting.specs.Steps.{firstBy}
 use Rattle.cutting.specs.Cut.{Ending, cutBy}
 use Rattle.cutting.specs.Cut.Ending.{Done, StuckAt, FullAt}
+use Rattle.cutting.specs.CutLaws.{by-table}
+use Rattle.cutting.specs.TileLaws.{never-full}
 use Rattle.lines.specs.Lines.{doneLine, stuckLine, refusedLine}
 use Rattle.built.specs.Calls.{buildBook}
 use Rattle.programs.specs.Output.{kindIn, lastLine, cutLines}
 use Rattle.programs.specs.Print.{cutBuilt, cutPrint}
 use Rattle.programs.specs.PrintLaws.{cut-both}
-use Rattle.programs.specs.EnoughLaws.{never-full}
 use Rattle.programs.specs.StandLaws.{Built}
 use Rattle.turns.specs.declared.Turn.{Turn}
 use Rattle.turns.specs.declared.Turn.the-variants.{Onward, Last}
@@ -117,7 +118,7 @@ cut-some : (kinds : ℕ → ℕ) (before : ℕ) (t : Table) (k at : ℕ) (text :
     → 0 < length (cutLines kinds before (cutBy (firstBy t) k at text))
 cut-some kinds before t k at text short =
     let c = cutBy (firstBy t) k at text in
-    let last = last-some (before + length (c .words)) (c .ending) (never-full t k at text short) in
+    let last = last-some (before + length (c .words)) (c .ending) (never-full (by-table t) k at text short) in
     simp length-append (omega (arith, last))
 
 pub rest-some : (kinds : ℕ → ℕ) (s : ℕ) (labels targets : List ℕ) (text : Text) (place before : ℕ)

@@ -14,16 +14,15 @@ use Rattle.meaning.specs.Re.{Text}
 use Rattle.meaning.specs.Words.{Found}
 use Rattle.table.specs.Table.{Table, lent, wellFormed}
 use Rattle.cutting.specs.declared.Word.{Word}
-use Rattle.cutting.specs.Steps.{FirstBy, firstBy}
+use Rattle.cutting.specs.Steps.{firstBy}
 use Rattle.cutting.specs.Cut.{Ending, cutBy}
 use Rattle.cutting.specs.Cut.Ending.{Done, StuckAt, FullAt}
-use Rattle.cutting.specs.CutLaws.{first-by, cut-is}
+use Rattle.cutting.specs.CutLaws.{Finds, by-table, cut-is}
 use Rattle.cutting.specs.Tiles.{Finished}
-use Rattle.cutting.specs.TileLaws.{cut-on}
+use Rattle.cutting.specs.TileLaws.{full-on, cut-on, cut-ample, cut-over}
 use Rattle.built.specs.Calls.{buildBook}
 use Rattle.programs.specs.Output.{kindIn, wordLines, cutLines}
 use Rattle.programs.specs.Print.{cutBuilt}
-use Rattle.programs.specs.EnoughLaws.{proper, full-on, cut-ample, cut-over}
 use Rattle.programs.specs.StandLaws.{Built}
 use Rattle.turns.specs.Turned.{nextBy, nextAfter, turnOf, turnLines}
 use Rattle.turns.specs.Turned.Next.{stop, onward}
@@ -34,13 +33,13 @@ unfolding wordLines
 words-more kinds [] vs = refl
 words-more kinds (w ∷ ws) vs = rw (words-more kinds ws vs, append-assoc)
 
-turns-print : (first : Text → Found) (kinds : ℕ → ℕ) (before m k at : ℕ) (text : Text) (p : ℕ)
+turns-print : {F : Text → Found → Type 0} {first : Text → Found} → Finds F first → (kinds : ℕ → ℕ) (before m k at : ℕ) (text : Text) (p : ℕ)
     → cutBy first m at text .ending ≡ FullAt p
     → cutLines kinds before (cutBy first (m + k) at text)
     ≡ cutLines kinds before (cutBy first m at text)
     ++ cutLines kinds (before + length (cutBy first m at text .words)) (cutBy first k p (drop (p - at) text))
-turns-print first kinds before m k at text p e =
-    rw (cut-on first m k at text p e .goes-on, e, append-nil)
+turns-print by kinds before m k at text p e =
+    rw (cut-on by m k at text p e .goes-on, e, append-nil)
     (simp (words-more, length-append, add-assoc, append-assoc))
 
 -- ---- turns of the code
@@ -89,7 +88,7 @@ module _ (kinds : ℕ → ℕ) (s : ℕ) (labels targets : List ℕ) (text : Tex
       go true h =
           let c = cutBy (firstBy tbl) m place rest in
           ap (cutLines kinds before)
-          (cut-over tbl m (length text) place rest enough (over-of (before + length (c .words)) (c .ending) h))
+          (cut-over (by-table tbl) (length text) place rest enough m (over-of (before + length (c .words)) (c .ending) h))
       go false h = refl
 
   module _ (p total : ℕ) (some : 0 < m) where
@@ -100,8 +99,8 @@ module _ (kinds : ℕ → ℕ) (s : ℕ) (labels targets : List ℕ) (text : Tex
     goes-on e f h =
         let past : place + (p - place) ≡ p = omega arith in
         let there : drop (p - place) rest ≡ drop p text = drop-drop (p - place) place text ∙ ap (λ (k : ℕ). drop k text) past in
-        ap (cutLines kinds before) (sym (cut-ample tbl m (length text) place rest enough))
-        ∙ turns-print (firstBy tbl) kinds before m (length text) place rest p e
+        ap (cutLines kinds before) (sym (cut-ample (by-table tbl) (length text) place rest enough m))
+        ∙ turns-print (by-table tbl) kinds before m (length text) place rest p e
         ∙ rw (there, f) refl
 
     pub turn-on : onward p total ≡ nextAfter before (turnOf s labels targets text place m) → Onwards kinds s labels targets text place before m p total
@@ -113,7 +112,7 @@ module _ (kinds : ℕ → ℕ) (s : ℕ) (labels targets : List ℕ) (text : Tex
         go true h well =
             let c = cutBy (firstBy tbl) m place rest in
             let f = full-of p total (before + length (c .words)) (c .ending) h in
-            let far = full-on (FirstBy tbl) (proper tbl) (cut-is (FirstBy tbl) (firstBy tbl) (first-by tbl) m place rest) p (f .0) in
+            let far = full-on (by-table tbl) (cut-is (by-table tbl) m place rest) p (f .0) in
             let left = length-drop place text in
             record {
               further = omega (arith, far .records);

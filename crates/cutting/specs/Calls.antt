@@ -9,7 +9,8 @@ use Rattle.number.specs.declared.Refusal.the-variants.{Loaded}
 use Rattle.number.specs.Refused.{Outcome}
 use Rattle.number.specs.Refused.Outcome.{gives, refuses}
 use Rattle.meaning.specs.Re.{Text}
-use Rattle.table.specs.Table.{Table, lent, wellFormed}
+use Rattle.meaning.specs.Words.{Found}
+use Rattle.table.specs.Table.{lent, wellFormed}
 use Rattle.cutting.specs.declared.Word.{Word}
 use Rattle.cutting.specs.declared.Ended.{Ended}
 use Rattle.cutting.specs.declared.Ended.the-variants.{Done, Stuck, Full, Refused}
@@ -28,9 +29,9 @@ ended (Stuck n at) = gives (record { ending = StuckAt at; count = n })
 ended (Full n at) = gives (record { ending = FullAt at; count = n })
 ended (Refused r) = refuses r
 
--- the cut of a text by a table, from a place on, with room for so many words
-abbrev pub cutOf : Table → Text → ℕ → ℕ → Cut
-cutOf t text at room = cutBy (firstBy t) room at (drop at text)
+-- the cut of a text from a place on, with room for so many words, whatever finds the first word
+abbrev pub cutOf : (Text → Found) → Text → ℕ → ℕ → Cut
+cutOf first text at room = cutBy first room at (drop at text)
 
 -- an answer with the records afterwards
 pub record Recorded : Type 0 where
@@ -45,5 +46,5 @@ recorded c records = record {
 
 abbrev pub cutFromOf : ℕ → List ℕ → List ℕ → Text → ℕ → List Word → Recorded
 cutFromOf s labels targets text at records =
-    cond (wellFormed s labels targets) (recorded (cutOf (lent s labels targets) text at (length records)) records)
+    cond (wellFormed s labels targets) (recorded (cutOf (firstBy (lent s labels targets)) text at (length records)) records)
     (record { answer = refuses Loaded; records = records })

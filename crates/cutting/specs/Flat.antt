@@ -10,6 +10,7 @@ use Rattle.number.specs.Refused.Outcome.{gives, refuses}
 use Rattle.meaning.specs.Re.{Text}
 use Rattle.table.specs.Table.{lent, wellFormed}
 use Rattle.cutting.specs.declared.Word.{Word}
+use Rattle.cutting.specs.Steps.{firstBy}
 use Rattle.cutting.specs.Cut.{Cut}
 use Rattle.cutting.specs.Calls.{Report, cutOf}
 
@@ -35,5 +36,5 @@ laid c cells = record {
 -- the records that cells have room for are whole ones
 abbrev pub cutCellsOf : ℕ → List ℕ → List ℕ → Text → ℕ → List ℕ → Laid
 cutCellsOf s labels targets text at cells =
-    cond (wellFormed s labels targets) (laid (cutOf (lent s labels targets) text at (length cells / recordCells)) cells)
+    cond (wellFormed s labels targets) (laid (cutOf (firstBy (lent s labels targets)) text at (length cells / recordCells)) cells)
     (record { answer = refuses Loaded; cells = cells })

@@ -1,24 +1,20 @@
 -- Words laid into lent memory one after another, in cells of plain numbers and in records: what a store adds, and the whole from the start.
 -- `lay` is what a cut leaves if what remains of it is put from record k on; the laws are those that specs/TurnLaws.antt asks of a memory.
-use Prim.Native.Nat.{ℕ, suc, _+_, _*_, _/_, _<_, _≤_}
+use Prim.Native.Nat.{ℕ, suc, _+_, _*_, _<_, _≤_}
 use native.Mathlib.Numerals.{add-one}
 use native.Mathlib.Nat.{add-zero, zero-add}
 use native.Mathlib.Omega.{arith}
 use mathlib.Core.Path.{_≡_, refl, ap}
-use mathlib.Core.Bool.{cond}
 use mathlib.Core.List.{List, [], _∷_, _++_, append-assoc, append-nil}
 use lib.ListN.{length, take, drop, set, take-append-drop}
 use lib.Seq.{take-suc-set, drop-set-lt}
-use Rattle.number.specs.declared.Refusal.the-variants.{Loaded}
 use Rattle.number.specs.Refused.{Outcome}
-use Rattle.number.specs.Refused.Outcome.{gives, refuses}
+use Rattle.number.specs.Refused.Outcome.{gives}
 use Rattle.number.specs.Lists.{written, written-more, stored-three}
-use Rattle.meaning.specs.Re.{Text}
-use Rattle.table.specs.Table.{lent, wellFormed}
 use Rattle.cutting.specs.declared.Word.{Word}
 use Rattle.cutting.specs.Cut.{Ending, Cut, ends, before}
-use Rattle.cutting.specs.Calls.{Report, Recorded, recorded, cutOf, cutFromOf}
-use Rattle.cutting.specs.Flat.{recordCells, flat, Laid, laid, cutCellsOf}
+use Rattle.cutting.specs.Calls.{Report, Recorded, recorded}
+use Rattle.cutting.specs.Flat.{recordCells, flat, Laid, laid}
 
 -- the report of a cut that goes on behind k words
 abbrev pub reports : ℕ → Cut → Outcome Report
@@ -69,18 +65,11 @@ cells-put k w m h c =
       next,
     ) (ap (overCells (reports k (before w c))) (written-more m (recordCells * k) (w .start ∷ w .len ∷ w .rule ∷ []) (flat (c .words)) (omega arith)))
 
-cells-start : (c : Cut) (m : List ℕ) → laid c m ≡ layCells 0 c m
+pub cells-start : (c : Cut) (m : List ℕ) → laid c m ≡ layCells 0 c m
 unfolding written
 cells-start c m =
     let first : recordCells * length (c .words) ≡ 0 + length (flat (c .words)) = omega (arith, flat-length (c .words)) in
     rw (reports-whole c, first)
-
-pub cells-whole : (s : ℕ) (labels targets : List ℕ) (text : Text) (at : ℕ) (m : List ℕ)
-    → cutCellsOf s labels targets text at m
-    ≡ cond (wellFormed s labels targets) (layCells 0 (cutOf (lent s labels targets) text at (length m / recordCells)) m) (overCells (refuses Loaded) m)
-cells-whole s labels targets text at m =
-    ap (λ (x : Laid). cond (wellFormed s labels targets) x (overCells (refuses Loaded) m))
-    (cells-start (cutOf (lent s labels targets) text at (length m / recordCells)) m)
 
 -- ---- records
 
@@ -98,12 +87,5 @@ words-put k w m h c =
     let next : k + 1 + length (c .words) ≡ k + suc (length (c .words)) = omega arith in
     rw (next, add-one, take-suc-set m k w h, drop-set-lt (k + suc (length (c .words))) m k w (omega arith), append-assoc)
 
-words-start : (c : Cut) (m : List Word) → recorded c m ≡ layWords 0 c m
+pub words-start : (c : Cut) (m : List Word) → recorded c m ≡ layWords 0 c m
 words-start c m = rw zero-add
-
-pub words-whole : (s : ℕ) (labels targets : List ℕ) (text : Text) (at : ℕ) (m : List Word)
-    → cutFromOf s labels targets text at m
-    ≡ cond (wellFormed s labels targets) (layWords 0 (cutOf (lent s labels targets) text at (length m)) m) (overWords (refuses Loaded) m)
-words-whole s labels targets text at m =
-    ap (λ (x : Recorded). cond (wellFormed s labels targets) x (overWords (refuses Loaded) m))
-    (words-start (cutOf (lent s labels targets) text at (length m)) m)

@@ -7,9 +7,8 @@ use lib.ListN.{length, take, drop}
 use Rattle.number.specs.Refused.{Outcome}
 use Rattle.number.specs.Refused.Outcome.{gives}
 use Rattle.meaning.specs.Re.{Text}
-use Rattle.table.specs.Table.{Table}
+use Rattle.meaning.specs.Words.{Found}
 use Rattle.cutting.specs.declared.Word.{Word}
-use Rattle.cutting.specs.Steps.{FirstBy}
 use Rattle.cutting.specs.Cut.{Ending, Cuts}
 use Rattle.cutting.specs.Calls.{Report}
 
@@ -17,12 +16,12 @@ use Rattle.cutting.specs.Calls.{Report}
 abbrev pub numbersOf : List Word → List ℕ
 numbersOf = flatMap (λ w. w .start ∷ w .len ∷ w .rule ∷ [])
 
--- with room for so many words, a call on a text from a place on found `before` in memory, answered and left `after`
-pub record Leaves {A : Type 0} (spread : List Word → List A) (t : Table) (text : Text) (at room : ℕ) (before : List A) (answer : Outcome Report)
+-- by what F says the first word is, with room for so many words, a call on a text from a place on found `before` in memory, answered and left `after`
+pub record Leaves {A : Type 0} (spread : List Word → List A) (F : Text → Found → Type 0) (text : Text) (at room : ℕ) (before : List A) (answer : Outcome Report)
     (after : List A) : Type 0 where
   pub words : List Word
   pub ending : Ending
-  pub cuts : Cuts (FirstBy t) room at (drop at text) (record { words = words; ending = ending })
+  pub cuts : Cuts F room at (drop at text) (record { words = words; ending = ending })
   pub answered : answer ≡ gives (record { ending = ending; count = length words })
   pub few : length words ≤ room
   pub front : take (length (spread words)) after ≡ spread words

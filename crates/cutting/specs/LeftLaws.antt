@@ -1,46 +1,52 @@
--- Why the calls leave what specs/Left.antt tells: one law for any memory, then its two uses, and that they agree.
+-- Why the calls leave what specs/Left.antt tells: one law for any memory and whatever finds the first word, then its two uses, and that they agree.
 -- A table that is not well formed is refused, and where no byte is left there is nothing to cut.
 use Prim.Native.Nat.{ℕ, _+_, _*_, _/_, _≤_}
 use native.Mathlib.Omega.{arith}
 use mathlib.Core.Path.{_≡_, refl, sym, ap, _∙_}
-use mathlib.Core.Bool.{Bool, true, false, cond}
+use mathlib.Core.Bool.{Bool, true, false}
 use mathlib.Core.List.{List, [], _∷_, _++_, flatMap}
-use lib.ListN.{length, take, drop, length-append, length-drop, drop-of-length-le}
+use lib.ListN.{length, take, drop, length-append, length-drop}
 use lib.Seq.{take-append-seam, drop-append-seam, take-at}
 use Rattle.number.specs.declared.Refusal.the-variants.{Loaded}
 use Rattle.number.specs.Refused.{Outcome, rowOf}
 use Rattle.number.specs.Refused.Row.{row}
 use Rattle.number.specs.Refused.Outcome.{gives, refuses}
 use Rattle.meaning.specs.Re.{Text}
+use Rattle.meaning.specs.Words.{Found}
 use Rattle.table.specs.Table.{Table, lent, wellFormed}
 use Rattle.cutting.specs.declared.Word.{Word}
 use Rattle.cutting.specs.Steps.{FirstBy, firstBy}
-use Rattle.cutting.specs.Cut.{Cut, Cuts, cutBy, ends}
+use Rattle.cutting.specs.Cut.{Cut}
 use Rattle.cutting.specs.Cut.Ending.{Done}
-use Rattle.cutting.specs.CutLaws.{first-by, cut-is}
+use Rattle.cutting.specs.CutLaws.{Finds, by-table, cut-is}
 use Rattle.cutting.specs.TileLaws.{cut-few}
 use Rattle.cutting.specs.Calls.{Report, cutOf, recorded, cutFromOf}
 use Rattle.cutting.specs.Flat.{flat, laid, cutCellsOf}
 use Rattle.cutting.specs.LayLaws.{flat-length}
-use Rattle.cutting.specs.TurnLaws.{cut-nothing}
+use Rattle.cutting.specs.TurnLaws.{cut-past}
 use Rattle.cutting.specs.Left.{numbersOf, Leaves}
 
-abbrev reportOf : Cut → Report
-reportOf c = record { ending = c .ending; count = length (c .words) }
+module _ {A : Type 0} (spread : List Word → List A) {F : Text → Found → Type 0} {first : Text → Found} (by : Finds F first) (text : Text) (at room : ℕ)
+    (before : List A) where
+  abbrev cut : Cut
+  cut = cutOf first text at room
 
-module _ {A : Type 0} (spread : List Word → List A) (t : Table) (text : Text) (at room : ℕ) (before : List A) where
-  leaves : (c : Cut) → Cuts (FirstBy t) room at (drop at text) c → length (spread (c .words)) ≤ length before
-      → Leaves spread t text at room before (gives (reportOf c)) (spread (c .words) ++ drop (length (spread (c .words))) before)
-  leaves c is fits =
+  pub leaves : (length (cut .words) ≤ room → length (spread (cut .words)) ≤ length before)
+      → Leaves spread F text at room before (gives (record { ending = cut .ending; count = length (cut .words) }))
+      (spread (cut .words) ++ drop (length (spread (cut .words))) before)
+  leaves fits =
+      let is = cut-is by room at (drop at text) in
+      let n = length (spread (cut .words)) in
+      let room-for : n ≤ length before = fits (cut-few is) in
       record {
-        words = c .words;
-        ending = c .ending;
+        words = cut .words;
+        ending = cut .ending;
         cuts = is;
         answered = refl;
         few = cut-few is;
-        front = take-append-seam (spread (c .words)) _;
-        behind = drop-append-seam (spread (c .words)) _;
-        whole = omega (arith, length-append (spread (c .words)) (drop (length (spread (c .words))) before), length-drop (length (spread (c .words))) before);
+        front = take-append-seam (spread (cut .words)) _;
+        behind = drop-append-seam (spread (cut .words)) _;
+        whole = omega (arith, room-for, length-append (spread (cut .words)) (drop n before), length-drop n before);
       }
 
 -- the cells of words are their numbers, three for each
@@ -69,23 +75,21 @@ not-given : {x : Report} → _≡_ {A = Outcome Report} (refuses Loaded) (gives 
 not-given e = let z : _≡_ {A = ℕ} 0 1 = cc in omega arith
 
 module _ (s : ℕ) (labels targets : List ℕ) (text : Text) (at : ℕ) where
-  the-one : (room : ℕ) → Cuts (FirstBy (lent s labels targets)) room at (drop at text) (cutOf (lent s labels targets) text at room)
-  the-one room = cut-is (FirstBy (lent s labels targets)) (firstBy (lent s labels targets)) (first-by (lent s labels targets)) room at (drop at text)
+  abbrev tbl : Table
+  tbl = lent s labels targets
 
   pub records-left : wellFormed s labels targets ≡ true → (records : List Word)
-      → Leaves (λ ws. ws) (lent s labels targets) text at (length records) records (cutFromOf s labels targets text at records .answer)
+      → Leaves (λ ws. ws) (FirstBy tbl) text at (length records) records (cutFromOf s labels targets text at records .answer)
       (cutFromOf s labels targets text at records .records)
-  records-left e records =
-      rw e (leaves (λ ws. ws) (lent s labels targets) text at (length records) records _ (the-one (length records)) (cut-few (the-one (length records))))
+  records-left e records = rw e (leaves (λ ws. ws) (by-table tbl) text at (length records) records (λ few. few))
 
   pub cells-left : wellFormed s labels targets ≡ true → (cells : List ℕ)
-      → Leaves numbersOf (lent s labels targets) text at (length cells / 3) cells (cutCellsOf s labels targets text at cells .answer)
+      → Leaves numbersOf (FirstBy tbl) text at (length cells / 3) cells (cutCellsOf s labels targets text at cells .answer)
       (cutCellsOf s labels targets text at cells .cells)
   cells-left e cells =
-      let few = cut-few (the-one (length cells / 3)) in
-      let long = numbers-length (cutOf (lent s labels targets) text at (length cells / 3) .words) in
-      rw (e, cells-laid (cutOf (lent s labels targets) text at (length cells / 3)) cells)
-      (leaves numbersOf (lent s labels targets) text at (length cells / 3) cells _ (the-one (length cells / 3)) (omega (arith, few, long)))
+      let c = cutOf (firstBy tbl) text at (length cells / 3) in
+      rw (e, cells-laid c cells)
+      (leaves numbersOf (by-table tbl) text at (length cells / 3) cells (λ few. omega (arith, few, numbers-length (c .words))))
 
   pub calls-agree : (records : List Word) (cells : List ℕ) → length records ≡ length cells / 3
       → (cutCellsOf s labels targets text at cells .answer ≡ cutFromOf s labels targets text at records .answer)
@@ -101,7 +105,7 @@ module _ (s : ℕ) (labels targets : List ℕ) (text : Text) (at : ℕ) where
           × ((x : Report) → cutFromOf s labels targets text at records .answer ≡ gives x
           → take (3 * x .count) (cutCellsOf s labels targets text at cells .cells) ≡ numbersOf (take (x .count) (cutFromOf s labels targets text at records .records)))
       go true e =
-          rw (e, ← h) (refl, λ x d. cells-front (cutOf (lent s labels targets) text at (length records)) records cells (x .count) (counted d))
+          rw (e, ← h) (refl, λ x d. cells-front (cutOf (firstBy tbl) text at (length records)) records cells (x .count) (counted d))
       go false e = rw e (refl, λ x d. absurd (not-given d))
 
   pub unformed : wellFormed s labels targets ≡ false
@@ -114,6 +118,6 @@ module _ (s : ℕ) (labels targets : List ℕ) (text : Text) (at : ℕ) where
       × ((cells : List ℕ) → cutCellsOf s labels targets text at cells ≡ record { answer = gives (record { ending = Done; count = 0 }); cells = cells })
   unfolding flat
   nothing-left e h = (
-    λ records. rw (e, drop-of-length-le text h, cut-nothing (firstBy (lent s labels targets)) (length records) at) refl,
-    λ cells. rw (e, drop-of-length-le text h, cut-nothing (firstBy (lent s labels targets)) (length cells / 3) at) refl,
+    λ records. rw (e, cut-past (firstBy tbl) text at (length records) h) refl,
+    λ cells. rw (e, cut-past (firstBy tbl) text at (length cells / 3) h) refl,
   )

@@ -17,7 +17,7 @@ use Rattle.cutting.specs.declared.Word.{Word}
 use Rattle.cutting.specs.Steps.{labelOf, FirstBy, firstBy}
 use Rattle.cutting.specs.Cut.{Cut, Cuts, cutBy}
 use Rattle.cutting.specs.Cut.Ending.{Done, FullAt}
-use Rattle.cutting.specs.CutLaws.{first-by, first-by-one, cut-is, cut-one}
+use Rattle.cutting.specs.CutLaws.{by-table, cut-exactly}
 use Rattle.cutting.specs.Tiles.{On}
 use Rattle.cutting.specs.TileLaws.{cut-enough, not-full, cut-on}
 use Rattle.cutting.specs.Pieces.{Tiled}
@@ -35,49 +35,46 @@ use Rattle.cutting.specs.Sample.{tableW, tableAll, labelled, begun, word
 
 -- a text has exactly one first word by a table: longest, under the table's label; the walk finds it
 pub the-first-word : (t : Table) (text : Text) (f : Found) → FirstBy t text f ↔ (firstBy t text ≡ f)
-the-first-word t text f = (λ p. first-by-one t text (firstBy t text) f (first-by t text) p, λ e. rw (← e) (first-by t text))
+the-first-word t text f = let by = by-table t in (λ p. by .one text (firstBy t text) f (by .found text) p, λ e. rw (← e) (by .found text))
 
 -- a text has exactly one cut, and it is the one that is worked out
 pub the-cut : (t : Table) (room at : ℕ) (text : Text) (x : Cut) → Cuts (FirstBy t) room at text x ↔ (cutBy (firstBy t) room at text ≡ x)
-the-cut t room at text x = (
-  λ c. cut-one (FirstBy t) (first-by-one t) (cut-is (FirstBy t) (firstBy t) (first-by t) room at text) c,
-  λ e. rw (← e) (cut-is (FirstBy t) (firstBy t) (first-by t) room at text),
-)
+the-cut t = cut-exactly (by-table t)
 
 -- its words tile the text from where it starts to where it ends, each the first word at its place, and joined they are that part of the text;
 -- there are no more of them than records; and it ends where they end: with the text, where no word starts, or where one does and no record is free
 pub the-tiling : (t : Table) (text : Text) (room at : ℕ) (c : Cut) → at ≤ length text → Cuts (FirstBy t) room at (drop at text) c
-    → Tiled t text room at c
-the-tiling t text room at c h cuts = cut-tiled t text cuts refl h
+    → Tiled (FirstBy t) text room at c
+the-tiling t text room at c h cuts = cut-tiled (by-table t) text cuts refl h
 
 -- cutting on from where a full list stopped is cutting the rest; a cut that was not full needs no more records
 pub the-rest : (t : Table) (m k at : ℕ) (text : Text) (p : ℕ) → cutBy (firstBy t) m at text .ending ≡ FullAt p → On (firstBy t) m k at text p
-the-rest t = cut-on (firstBy t)
+the-rest t = cut-on (by-table t)
 
 pub the-end : (t : Table) (m k at : ℕ) (text : Text) → ((p : ℕ) → cutBy (firstBy t) m at text .ending ≡ FullAt p → ⊥)
     → cutBy (firstBy t) (m + k) at text ≡ cutBy (firstBy t) m at text
-the-end t m k at text n = cut-enough (firstBy t) m k at text (not-full (firstBy t) (cutBy (firstBy t) m at text .ending) n)
+the-end t m k at text n = cut-enough (by-table t) m k at text (not-full (cutBy (firstBy t) m at text .ending) n)
 
 -- ---- calls
 
 -- by a table that is well formed: the words of the one cut from the place on, with as many as there is room for, stand in front; the answer has
 -- their number; what stands behind them is as before. On records, and on numbers, three to a record
 pub the-records : (s : ℕ) (labels targets : List ℕ) (text : Text) (at : ℕ) → wellFormed s labels targets ≡ true → (records : List Word)
-    → Leaves (λ ws. ws) (lent s labels targets) text at (length records) records (cutFromOf s labels targets text at records .answer)
+    → Leaves (λ ws. ws) (FirstBy (lent s labels targets)) text at (length records) records (cutFromOf s labels targets text at records .answer)
     (cutFromOf s labels targets text at records .records)
 the-records = records-left
 
 pub the-cells : (s : ℕ) (labels targets : List ℕ) (text : Text) (at : ℕ) → wellFormed s labels targets ≡ true → (cells : List ℕ)
-    → Leaves numbersOf (lent s labels targets) text at (length cells / 3) cells (cutCellsOf s labels targets text at cells .answer)
+    → Leaves numbersOf (FirstBy (lent s labels targets)) text at (length cells / 3) cells (cutCellsOf s labels targets text at cells .answer)
     (cutCellsOf s labels targets text at cells .cells)
 the-cells = cells-left
 
 -- and this is what the code's two calls promise, `cut` from the start of the text
 pub the-promises : (s : ℕ) (labels targets : List ℕ) (text : Text) → wellFormed s labels targets ≡ true
     → ((before after : List Word) (r : Ended) → CutsWords s labels targets text before after r
-    → Leaves (λ ws. ws) (lent s labels targets) text 0 (length before) before (ended r) after)
+    → Leaves (λ ws. ws) (FirstBy (lent s labels targets)) text 0 (length before) before (ended r) after)
     × ((at : ℕ) (before after : List ℕ) (r : Ended) → CutsInto s labels targets text at before after r
-    → Leaves numbersOf (lent s labels targets) text at (length before / 3) before (ended r) after)
+    → Leaves numbersOf (FirstBy (lent s labels targets)) text at (length before / 3) before (ended r) after)
 the-promises s labels targets text e = (
   λ before after r p. rw (p .answer, p .records) (the-records s labels targets text 0 e before),
   λ at before after r p. rw (p .answer, p .cells) (the-cells s labels targets text at e before),

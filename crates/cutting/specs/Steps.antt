@@ -2,7 +2,6 @@
 -- The first word at a place is the longest non-empty prefix with a label, under that label, as meaning's Words has it.
 use Prim.Native.Nat.{ℕ, _+_, _*_}
 use mathlib.Core.Path.{_≡_}
-use mathlib.Core.List.{List}
 use lib.ListN.{getD}
 use Rattle.number.specs.Limits.{bytes}
 use Rattle.meaning.specs.Re.{Text}

@@ -6,7 +6,7 @@ use native.Mathlib.Decide.{decLt}
 use mathlib.Core.Path.{_≡_, refl, sym, ap, subst, _∙_}
 use mathlib.Core.Bool.{true}
 use mathlib.Core.List.{List}
-use lib.ListN.{length, getD, drop, length-take, length-drop, drop-of-length-le}
+use lib.ListN.{length, getD, drop, length-take, drop-of-length-le}
 use lib.Seq.{getD-take, getD-drop}
 use Rattle.number.specs.Limits.{bytes}
 use Rattle.number.specs.Lists.{drop-one}
@@ -17,11 +17,10 @@ use Rattle.table.specs.Table.{lent, wellFormed}
 use Rattle.table.specs.Formed.{Formed}
 use Rattle.table.specs.SheetFormed.{well-formed}
 use Rattle.cutting.specs.Steps.{stepIn, labelAt, firstBy}
-use Rattle.cutting.specs.CutLaws.{first-by}
 use Rattle.cutting.specs.Dead.{deadOf}
 use Rattle.cutting.specs.DeadLaws.{Dead, dead-of, scan-dead}
 use Rattle.cutting.specs.declared.Run.{Run}
-use Rattle.cutting.specs.Turns.{Walkable, led, Ran}
+use Rattle.cutting.specs.Walk.{Walkable, led, Ran}
 
 -- a well formed table can be walked
 pub well-walkable : (count : ℕ) (labels targets : List ℕ) → wellFormed count labels targets ≡ true → Walkable count labels targets
@@ -33,13 +32,6 @@ well-walkable count labels targets e =
       filled = omega (arith, length-take (count * bytes) targets, f .filled);
       target = λ i h. rw (getD-take (count * bytes) targets i 0 h) at (f .target i (omega (arith, f .filled)));
     }
-
--- a word that was found lies in the text
-pub found-fits : (count : ℕ) (labels targets : List ℕ) (text : Text) (at n r : ℕ)
-    → Word n r ≡ firstBy (lent count labels targets) (drop at text) → n ≤ length text - at
-found-fits count labels targets text at n r e =
-    let f = rw (← e) at (first-by (lent count labels targets) (drop at text)) in
-    omega (arith, f .1, length-drop at text)
 
 -- a new best word does not depend on the one before
 pub better-new : (n label : ℕ) (best : Found) → (label ≡ 0 → ⊥) → better n label best ≡ better n label Stuck

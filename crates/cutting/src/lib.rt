@@ -9,7 +9,8 @@ ghost use Rattle.meaning.specs.Words.Found.{Stuck};
 ghost use Rattle.table.specs.Table.{lent};
 ghost use Rattle.cutting.specs.Steps.{firstBy};
 ghost use Rattle.cutting.specs.Dead.{dead, deadOf};
-ghost use Rattle.cutting.specs.Turns.{Walkable, Ready, Ran, next, halted, stepOf, firstStepOf};
+ghost use Rattle.cutting.specs.Turns.{halted, stepOf};
+ghost use Rattle.cutting.specs.Walk.{Walkable, Ready, Ran, next, firstStepOf};
 ghost use Rattle.cutting.specs.Promises.{CutsInto, CutsWords};
 use number::Refusal;
 use number::limits::BYTES;
@@ -33,7 +34,7 @@ pub enum Ended {
 }
 
 // The first word at a place: its length and its rule.
-enum Next {
+pub enum Next {
     Word(usize, usize),
     None,
 }
@@ -84,7 +85,7 @@ fn is_dead<'a>(labels: &'a [u8], targets: &'a [u8], state: usize) -> bool
 }
 
 // The first dead state, or the count of states where there is none.
-fn dead_state<'a>(count: usize, labels: &'a [u8], targets: &'a [u8]) -> usize
+pub fn dead_state<'a>(count: usize, labels: &'a [u8], targets: &'a [u8]) -> usize
     requires { ⌜ Walkable count (now labels) (now targets) ⌝ }
     ensures { λ r. ⌜ r ≡ deadOf count (now (labels .entry)) (now (targets .entry)) ⌝ }
 {
@@ -129,7 +130,8 @@ fn run_from<'a>(targets: &'a [u8], text: &'a [u8], state: usize, from: usize, de
 // Walks the text once from a place on, run by run, and keeps the last labelled place.
 // No label can follow the dead state: the walk stops there, so that a word costs its own length and what is read past it.
 // A word that ends in a labelled state is told by a branch of its own, so that the next one need not wait for what was kept.
-fn next_word<'a>(
+// Whoever calls it has had the table tested by `table::well_formed` and its dead state found by `dead_state`, once for all words.
+pub fn next_word<'a>(
     count: usize,
     labels: &'a [u8],
     targets: &'a [u8],
@@ -195,7 +197,7 @@ fn next_step<'a>(
     room: usize,
 ) -> Step
     requires { ⌜ Ready count (now labels) (now targets) (place .dead) ⌝ }
-    ensures { λ r. ⌜ r ≡ stepOf (lent count (now (labels .entry)) (now (targets .entry))) (now (text .entry)) place k room ⌝ }
+    ensures { λ r. ⌜ r ≡ stepOf (firstBy (lent count (now (labels .entry)) (now (targets .entry)))) (now (text .entry)) place k room ⌝ }
 {
     let at = place.at;
     let dead = place.dead;

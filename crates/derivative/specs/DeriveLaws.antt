@@ -9,32 +9,34 @@ use lib.Dec.{leb, eqb}
 use lib.ListN.{length}
 use borrow.Author.Tests.{ne-eqb}
 use Rattle.number.specs.Branch.{by-cond}
+use Rattle.meaning.specs.declared.Join.the-variants.{Then, Or}
 use Rattle.meaning.specs.Re.{Re, size, isNothing, isEmpty}
 use Rattle.meaning.specs.Normal.{cat, alt}
-use Rattle.meaning.specs.Derive.{nullable, deriv}
+use Rattle.meaning.specs.Derive.{deriv}
 use Rattle.meaning.specs.Limited.{Fit, _>>=_, short, fit, derivFit}
 use Rattle.meaning.specs.Limited.Fit.{Long, Fits}
-use Rattle.meaning.specs.LimitedLaws.{deriv-short}
+use Rattle.meaning.specs.LimitedLaws.{deriv-short, deriv-fits-short}
 use Rattle.meaning.specs.Shape.{InShape}
 use Rattle.meaning.specs.ShapeLaws.{shape-cat, shape-deriv, cat-members}
-use Rattle.meaning.specs.SizeLaws.{spine, size-some, short-members, short-spine, part-short}
+use Rattle.meaning.specs.PartLaws.{size-some}
+use Rattle.meaning.specs.SizeLaws.{short-members, part-short}
 use Rattle.term.specs.declared.Term.{Term}
 use Rattle.term.specs.declared.Term.the-variants.{Nothing, Empty, Range, Cat, Alt, Star}
 use Rattle.term.specs.Cells.{grow, term, Below, Sound}
 use Rattle.term.specs.Area.{pending, GrownFree, Room, Makes}
-use Rattle.term.specs.Nodes.{kindOf, firstOf, Found}
+use Rattle.term.specs.Nodes.{kindOf, firstOf, secondOf, arityOf, Found}
 use Rattle.term.specs.CellLaws.{sound-less, grown-refl, grown-trans, grown-term, makes-old, makes-free, makes-after}
-use Rattle.term.specs.ReadLaws.{cat-size, alt-size, star-size}
+use Rattle.term.specs.ReadLaws.{one-part, two-parts, one-size, two-size}
 use Rattle.normal.specs.declared.Made.{Made}
 use Rattle.normal.specs.declared.Made.the-variants.{Term as Made·term, Long as Made·long}
 use Rattle.normal.specs.Made.{MadeBy}
-use Rattle.normal.specs.Asked.{catCells, CountedLinks}
+use Rattle.normal.specs.Asked.{members, mostMembers, catCells, CountedLinks}
 use Rattle.normal.specs.Builds.{CatFits}
 use Rattle.normal.specs.ChainLaws.{cat-few, cat-idle-left}
 use Rattle.normal.specs.AnswerLaws.{Got, long-is, made-term, made-after, long-after}
-use Rattle.choice.specs.Asked.{members, mostMembers, altCells, ShortChoices}
+use Rattle.choice.specs.Asked.{altCells, CountedSides}
 use Rattle.choice.specs.UniteLaws.{alt-few, alt-idle-left}
-use Rattle.derivative.specs.Derives.{derivRoom, derivCells, Derives, rangeLeft, leafLeft, restOf, restFit, restCells, bothSides, Rested}
+use Rattle.derivative.specs.Derives.{derivRoom, derivCells, Derives, leafLeft, restOf, restFit, restCells, bothSides, Rested}
 
 -- ---- the limited derivative is short
 
@@ -49,40 +51,10 @@ Shaped (Fits v) = InShape v
 fit-is-short : (v : Re) → Short (fit v)
 fit-is-short v = by-cond Short (short v) (λ e. e) (λ _. tt)
 
-then-short : (m : Fit) (f : Re → Fit) → Short m → ((v : Re) → short v ≡ true → Short (f v)) → Short (m >>= f)
-then-short Long f e h = tt
-then-short (Fits v) f e h = h v e
-
-range-is-short : (b : Bool) → short (cond b Re.Empty Re.Nothing) ≡ true
-unfolding size
-range-is-short true = refl
-range-is-short false = refl
-
-deriv-is-short : (c : ℕ) (r : Re) → Short (derivFit c r)
-unfolding derivFit deriv size
-deriv-is-short c Re.Nothing = refl
-deriv-is-short c Re.Empty = refl
-deriv-is-short c (Re.Range lo hi) = range-is-short (leb lo c && leb c hi)
-deriv-is-short c (Re.Cat a b) =
-    then-short (derivFit c a) _ (deriv-is-short c a)
-    (λ da _. then-short (fit (cat da b)) _ (fit-is-short (cat da b)) (λ left e. go left e (nullable a) (deriv-is-short c b)))
-  where
-    go : (left : Re) → short left ≡ true → (n : Bool) → Short (derivFit c b)
-        → Short (elim n [ true ↦ derivFit c b >>= (λ db. fit (alt left db)) | false ↦ Fits left ])
-    go left e true h = then-short (derivFit c b) _ h (λ db _. fit-is-short (alt left db))
-    go left e false h = e
-deriv-is-short c (Re.Alt a b) =
-    then-short (derivFit c a) _ (deriv-is-short c a)
-    (λ da _. then-short (derivFit c b) _ (deriv-is-short c b) (λ db _. fit-is-short (alt da db)))
-deriv-is-short c (Re.Star a) = then-short (derivFit c a) _ (deriv-is-short c a) (λ da _. fit-is-short (cat da (Re.Star a)))
-
 fits-short : (f : Fit) (v : Re) → Short f → f ≡ Fits v → short v ≡ true
 fits-short f v h e = rw e at h
 
--- so a derivative that fits is short, and in shape where its term is
-derived-short : (c : ℕ) (r v : Re) → derivFit c r ≡ Fits v → short v ≡ true
-derived-short c r v e = fits-short (derivFit c r) v (deriv-is-short c r) e
-
+-- a derivative that fits is in shape where its term is
 derived-shape : (c : ℕ) (r v : Re) → InShape r → derivFit c r ≡ Fits v → InShape v
 derived-shape c r v s e = rw (deriv-short c r v e) (shape-deriv c r s)
 
@@ -142,7 +114,7 @@ module _ (kind : ℕ) (v y : Re) (short-v : short v ≡ true) where
   rest-short w = fits-short (restFit kind v y) w (by-cond Short (eqb kind 4) (λ _. short-v) (λ _. fit-is-short (cat v y)))
 
   rest-few : restCells kind v y ≤ mostMembers
-  rest-few = by-cond (λ n. n ≤ mostMembers) (eqb kind 4) (λ _. omega arith) (λ _. omega (arith, cat-few v y, short-spine v short-v))
+  rest-few = by-cond (λ n. n ≤ mostMembers) (eqb kind 4) (λ _. omega arith) (λ _. omega (arith, cat-few v y, short-members Then v short-v))
 
 rest-shape : (kind : ℕ) (v y w : Re) → InShape v → InShape y → restFit kind v y ≡ Fits w → InShape w
 rest-shape kind v y w p q e = rw e at shaped
@@ -181,16 +153,16 @@ two-steps v b w z e s t sv sw sz m n = go (isNothing v) (isEmpty v) refl refl
         let gone : isNothing w ≡ true = ap isNothing (e ∙ left-none v b f) in
         omega (arith, cat-idle-left v b (or-left (isEmpty v) f), alt-idle-left w z gone)
     go false true f g =
-        omega (arith, cat-idle-left v b (or-right f g), alt-few w z s t, short-members w sw, short-members z sz)
+        omega (arith, cat-idle-left v b (or-right f g), alt-few w z s t, short-members Or w sw, short-members Or z sz)
     go false false f g =
         omega (
           arith,
           cat-few v b,
-          short-spine v sv,
+          short-members Then v sv,
           alt-few w z s t,
-          ap members e,
+          ap (members Or) e,
           cat-members v b f g m n,
-          short-members z sz,
+          short-members Or z sz,
         )
 
 -- ---- a term without parts
@@ -199,26 +171,18 @@ range-grown : (s : List ℕ) (b : Bool) → grow (cond b Empty Nothing) (term s)
 range-grown s true = refl
 range-grown s false = refl
 
-range-fits : (s : List ℕ) (c lo hi : ℕ) (u : Term) → u ≡ rangeLeft lo hi c → Fits (grow u (term s)) ≡ derivFit c (Re.Range lo hi)
+leaf-fits : (s : List ℕ) (c : ℕ) (u w : Term) → arityOf u ≡ 0 → w ≡ leafLeft u c → Fits (grow w (term s)) ≡ derivFit c (grow u (term s))
 unfolding derivFit deriv
-range-fits s c lo hi u e = rw e (ap Fits (range-grown s (leb lo c && leb c hi)))
-
-leaf-fits : (s : List ℕ) (c : ℕ) (u w : Term) → kindOf u < 3 → w ≡ leafLeft u c → Fits (grow w (term s)) ≡ derivFit c (grow u (term s))
-unfolding derivFit
 leaf-fits s c Nothing w h e = rw e
 leaf-fits s c Empty w h e = rw e
-leaf-fits s c (Range lo hi) w h e = range-fits s c lo hi w e
+leaf-fits s c (Range lo hi) w h e = rw e (ap Fits (range-grown s (leb lo c && leb c hi)))
 leaf-fits s c (Cat a b) w h e = absurd (omega arith)
 leaf-fits s c (Alt a b) w h e = absurd (omega arith)
 leaf-fits s c (Star a) w h e = absurd (omega arith)
 
-leaf-below : (top c : ℕ) (u w : Term) → kindOf u < 3 → w ≡ leafLeft u c → Below w top
-leaf-below top c Nothing w h e = rw e tt
-leaf-below top c Empty w h e = rw e tt
-leaf-below top c (Range lo hi) w h e = rw e (by-cond (λ v. Below v top) (leb lo c && leb c hi) (λ _. tt) (λ _. tt))
-leaf-below top c (Cat a b) w h e = absurd (omega arith)
-leaf-below top c (Alt a b) w h e = absurd (omega arith)
-leaf-below top c (Star a) w h e = absurd (omega arith)
+leaf-below : (top c : ℕ) (u w : Term) → w ≡ leafLeft u c → Below w top
+leaf-below top c u w e =
+    rw e (by-cond (λ v. Below v top) (eqb (kindOf u) 2 && (leb (firstOf u) c && leb c (secondOf u))) (λ _. tt) (λ _. tt))
 
 -- ---- a node with parts, of any kind: what the derivative asks of its first part and of the rest
 
@@ -234,11 +198,11 @@ pub record Parts (s : List ℕ) (i kind a b : ℕ) : Type 0 where
   pub steps : bothSides kind (term s a) ≡ true → (v w z : Re) → restFit kind v (term s b) ≡ Fits w → InShape w → InShape z
       → short v ≡ true → short w ≡ true → short z ≡ true → restCells kind v (term s b) + altCells w z ≤ 2 * mostMembers
 
-parts-of : (s : List ℕ) (i : ℕ) (u : Term) → Found s i u → 2 < kindOf u → InShape (term s i) → Parts s i (kindOf u) (firstOf u) (restOf u i)
+parts-of : (s : List ℕ) (i : ℕ) (u : Term) → Found s i u → (arityOf u ≡ 0 → ⊥) → InShape (term s i) → Parts s i (kindOf u) (firstOf u) (restOf u i)
 unfolding derivFit
-parts-of s i Nothing f h t = absurd (omega arith)
-parts-of s i Empty f h t = absurd (omega arith)
-parts-of s i (Range lo hi) f h t = absurd (omega arith)
+parts-of s i Nothing f h t = absurd (h refl)
+parts-of s i Empty f h t = absurd (h refl)
+parts-of s i (Range lo hi) f h t = absurd (h refl)
 parts-of s i (Cat a b) f h t =
     let whole : InShape (Re.Cat (term s a) (term s b)) = rw (f .is) at t in
     record {
@@ -246,9 +210,9 @@ parts-of s i (Cat a b) f h t =
       rest = omega (arith, f .below .1);
       first-shape = whole .0;
       rest-shape = whole .1;
-      larger = omega (arith, cat-size s i a b f);
+      larger = omega (arith, two-size (two-parts f refl refl refl));
       is = λ c. ap (derivFit c) (f .is);
-      second = λ _. (f .below .1, cat-size s i a b f);
+      second = λ _. (f .below .1, two-size (two-parts f refl refl refl));
       steps = λ _ v w z e k l m n o.
           two-steps v (term s b) w z (fit-value (cat v (term s b)) w e) k l m n o (whole .2 .right-some) (whole .2 .right-long);
     }
@@ -259,10 +223,10 @@ parts-of s i (Alt a b) f h t =
       rest = omega (arith, f .below .1);
       first-shape = whole .0;
       rest-shape = whole .1;
-      larger = omega (arith, alt-size s i a b f);
+      larger = omega (arith, two-size (two-parts f refl refl refl));
       is = λ c. ap (derivFit c) (f .is);
-      second = λ _. (f .below .1, alt-size s i a b f);
-      steps = λ _ v w z e k l m n o. omega (arith, alt-few w z k l, short-members w n, short-members z o);
+      second = λ _. (f .below .1, two-size (two-parts f refl refl refl));
+      steps = λ _ v w z e k l m n o. omega (arith, alt-few w z k l, short-members Or w n, short-members Or z o);
     }
 parts-of s i (Star a) f h t =
     let whole : InShape (Re.Star (term s a)) = rw (f .is) at t in
@@ -272,14 +236,14 @@ parts-of s i (Star a) f h t =
       rest = omega arith;
       first-shape = whole .0;
       rest-shape = t;
-      larger = omega (arith, star-size s i a f);
+      larger = omega (arith, one-size (one-part f refl refl));
       is = λ c. rw (f .is) (star-parts c (term s a));
       second = λ e. absurd (no e);
       steps = λ e. absurd (no e);
     }
 
 -- as the code has read it
-pub parts : {s : List ℕ} {i : ℕ} {u : Term} {kind a b : ℕ} → Found s i u → 2 < kindOf u → InShape (term s i) → kind ≡ kindOf u → a ≡ firstOf u
+pub parts : {s : List ℕ} {i : ℕ} {u : Term} {kind a b : ℕ} → Found s i u → (arityOf u ≡ 0 → ⊥) → InShape (term s i) → kind ≡ kindOf u → a ≡ firstOf u
     → b ≡ restOf u i → Parts s i kind a b
 parts {s} {i} {u} f h t x y z = rw (x, y, z) (parts-of s i u f h t)
 
@@ -314,13 +278,13 @@ two-cells : (r x y : Re) → size r ≡ 1 + size x + size y → derivCells r ≡
 two-cells r x y e = omega (arith, cells-size r, cells-size x, cells-size y, size-some x, size-some y)
 
 -- two derivatives that fit, to choose from
-short-choices : {s : List ℕ} {top a b : ℕ} (x y : Re) → Sound s top → a < top → b < top → term s a ≡ x → term s b ≡ y → InShape x → InShape y
-    → short x ≡ true → short y ≡ true → Room s top (2 * mostMembers + pending) → ShortChoices s top a b
-short-choices {s} {top} {a} {b} x y ok h k p q t u v w m =
-    let room : Room s top (members (term s a) + members (term s b) + pending) =
-    omega (arith, m, ap members p, ap members q, short-members x v, short-members y w) in
+counted-sides : {s : List ℕ} {top a b : ℕ} (x y : Re) → Sound s top → a < top → b < top → term s a ≡ x → term s b ≡ y → InShape x → InShape y
+    → short x ≡ true → short y ≡ true → Room s top (2 * mostMembers + pending) → CountedSides Or s top a b
+counted-sides {s} {top} {a} {b} x y ok h k p q t u v w m =
+    let room : Room s top (members Or (term s a) + members Or (term s b) + pending) =
+    omega (arith, m, ap (members Or) p, ap (members Or) q, short-members Or x v, short-members Or y w) in
     record {
-      choices = record {
+      sides = record {
         sound = ok;
         left = h;
         right = k;
@@ -353,10 +317,10 @@ module _ {s : List ℕ} {top i : ℕ} (d : Derives s top i) where
   links-after : (c a : ℕ) {b : ℕ} {s₁ : List ℕ} {da first : ℕ} → Got s top s₁ da first (derivFit c (term s a)) (derivCells (term s a))
       → derivCells (term s a) + mostMembers + 1 ≤ derivCells (term s i) → b < top → CountedLinks s₁ first da b
   links-after c a {b} {s₁} {da} {first} g fewer held =
-      let few = short-spine (g .value) (derived-short c (term s a) (g .value) (g .fits)) in
-      let room : Room s₁ first (spine (term s₁ da) + 1 + pending) = omega (
+      let few = short-members Then (g .value) (deriv-fits-short c (term s a) (g .value) (g .fits)) in
+      let room : Room s₁ first (members Then (term s₁ da) + pending) = omega (
         arith,
-        ap spine (g .makes .is),
+        ap (members Then) (g .makes .is),
         few,
         g .makes .few,
         g .makes .grown .same-length,
@@ -375,9 +339,9 @@ module _ {s : List ℕ} {top i : ℕ} (d : Derives s top i) where
 
   module _ {u : Term} (f : Found s i u) where
     -- a term without parts
-    module _ (k : kindOf u < 3) (c : ℕ) {w : Term} (e : w ≡ leafLeft u c) where
+    module _ (k : arityOf u ≡ 0) (c : ℕ) {w : Term} (e : w ≡ leafLeft u c) where
       pub leaf-asks : Sound s top × ((top < length s) × Below w top)
-      leaf-asks = (d .sound, (omega (arith, d .room, room-cells (term s i), cells-some (term s i)), leaf-below top c u w k e))
+      leaf-asks = (d .sound, (omega (arith, d .room, room-cells (term s i), cells-some (term s i)), leaf-below top c u w e))
 
       pub leaf-up : {s′ : List ℕ} {root top′ : ℕ} → Makes s top s′ root top′ (grow w (term s)) 1
           → MadeBy s top s′ (Made·term root top′) (derivFit c (term s i)) (derivCells (term s i))
@@ -406,7 +370,7 @@ module _ {s : List ℕ} {top i : ℕ} (d : Derives s top i) where
     -- the first part's derivative is there
     module _ {s₁ : List ℕ} {da first : ℕ} (g : Got s top s₁ da first (derivFit c (term s a)) (derivCells (term s a))) where
       da-short : short (g .value) ≡ true
-      da-short = derived-short c (term s a) (g .value) (g .fits)
+      da-short = deriv-fits-short c (term s a) (g .value) (g .fits)
 
       da-shape : InShape (g .value)
       da-shape = derived-shape c (term s a) (g .value) (p .first-shape) (g .fits)
@@ -491,7 +455,7 @@ module _ {s : List ℕ} {top i : ℕ} (d : Derives s top i) where
             db-fits = sym (ap (derivFit c) rest-stays-2) ∙ k .fits
 
             db-short : short (k .value) ≡ true
-            db-short = derived-short c (term s b) (k .value) db-fits
+            db-short = deriv-fits-short c (term s b) (k .value) db-fits
 
             db-shape : InShape (k .value)
             db-shape = derived-shape c (term s b) (k .value) (p .rest-shape) db-fits
@@ -502,9 +466,9 @@ module _ {s : List ℕ} {top i : ℕ} (d : Derives s top i) where
             few-3 : third ≤ top + (derivCells (term s a) + restCells kind (g .value) (term s b) + derivCells (term s b))
             few-3 = omega (arith, few-2, k .makes .few, ap derivCells rest-stays-2)
 
-            pub choice-asks : ShortChoices s₃ third left db
+            pub choice-asks : CountedSides Or s₃ third left db
             choice-asks =
-                short-choices (h .value) (k .value) (k .makes .grown .sound) (omega (arith, h .makes .within, k .makes .grown .up))
+                counted-sides (h .value) (k .value) (k .makes .grown .sound) (omega (arith, h .makes .within, k .makes .grown .up))
                 (k .makes .within) left-stays (k .makes .is) left-shape db-shape left-short db-short
                 (omega (arith, few-3, left-few, k .makes .grown .same-length, grown-2 .same-length, d .room, room-cells (term s i), both-cells))
 

@@ -12,13 +12,13 @@ use Rattle.meaning.specs.Limited.{Fit, short, fit, derivFit}
 use Rattle.meaning.specs.Limited.Fit.{Fits}
 use Rattle.meaning.specs.Shape.{InShape}
 use Rattle.term.specs.declared.Term.{Term}
-use Rattle.term.specs.declared.Term.the-variants.{Nothing, Empty, Range, Cat, Alt, Star}
+use Rattle.term.specs.declared.Term.the-variants.{Nothing, Empty, Range, Cat, Alt}
 use Rattle.term.specs.Cells.{term, Sound}
 use Rattle.term.specs.Area.{pending, Room}
+use Rattle.term.specs.Nodes.{kindOf, firstOf, secondOf, arityOf}
 use Rattle.normal.specs.declared.Made.{Made}
 use Rattle.normal.specs.Made.{MadeBy}
-use Rattle.normal.specs.Asked.{catCells}
-use Rattle.choice.specs.Asked.{mostMembers}
+use Rattle.normal.specs.Asked.{mostMembers, catCells}
 
 -- the cells that it asks for, with those for counting, and the cells that it uses
 unfoldable pub derivRoom : Re → ℕ
@@ -35,27 +35,13 @@ pub record Derives (s : List ℕ) (top i : ℕ) : Type 0 where
   pub is-short : short (term s i) ≡ true
   pub room : Room s top (derivRoom (term s i))
 
--- what a range leaves after a byte
-abbrev pub rangeLeft : ℕ → ℕ → ℕ → Term
-rangeLeft lo hi byte = cond (leb lo byte && leb byte hi) Empty Nothing
-
--- and a term without parts
+-- what a term without parts leaves after a byte: only a range leaves something, where the byte lies in it
 abbrev pub leafLeft : Term → ℕ → Term
-leafLeft Nothing byte = Nothing
-leafLeft Empty byte = Nothing
-leafLeft (Range lo hi) byte = rangeLeft lo hi byte
-leafLeft (Cat a b) byte = Nothing
-leafLeft (Alt a b) byte = Nothing
-leafLeft (Star a) byte = Nothing
+leafLeft u byte = cond (eqb (kindOf u) (kindOf (Range 0 0)) && (leb (firstOf u) byte && leb byte (secondOf u))) Empty Nothing
 
--- what stands behind a node's first part: the second side, or the Star itself
+-- what stands behind a node's first part: the second one, or where there is none the node itself
 abbrev pub restOf : Term → ℕ → ℕ
-restOf Nothing i = 0
-restOf Empty i = 0
-restOf (Range lo hi) i = hi
-restOf (Cat a b) i = b
-restOf (Alt a b) i = b
-restOf (Star a) i = i
+restOf u i = cond (eqb (arityOf u) 1) i (secondOf u)
 
 -- by the node's kind: its first part's derivative v with the rest y behind it, which in an Alt stands alone; and the cells that this uses
 abbrev pub restFit : ℕ → Re → Re → Fit

@@ -2,23 +2,21 @@
 -- A place that waits stands for a node that was passed and for one to come, so that half of a short term's nodes is room enough.
 use Prim.Native.Nat.{ℕ, _+_, _≤_, min}
 use mathlib.Core.Path.{_≡_}
+use mathlib.Core.Bool.{cond}
 use mathlib.Core.List.{List}
+use lib.Dec.{eqb}
 use Rattle.number.specs.Limits.{bytes}
-use Rattle.meaning.specs.Re.{Re, size}
-use Rattle.meaning.specs.Edges.{nextEdge, nextEdgeAll}
+use Rattle.meaning.specs.Re.{size}
+use Rattle.meaning.specs.Edges.{rangeEdge, nextEdge, nextEdgeAll}
 use Rattle.term.specs.declared.Term.{Term}
-use Rattle.term.specs.declared.Term.the-variants.{Nothing, Empty, Range, Cat, Alt, Star}
+use Rattle.term.specs.declared.Term.the-variants.{Range}
 use Rattle.term.specs.Cells.{term}
+use Rattle.term.specs.Nodes.{kindOf, firstOf, secondOf}
 use Rattle.term.specs.Places.{termsAt, ahead, Listed}
 
 -- the edge of a term without parts
 abbrev pub leafEdge : Term → ℕ → ℕ
-leafEdge Nothing c = bytes
-leafEdge Empty c = bytes
-leafEdge (Range lo hi) c = nextEdge c (Re.Range lo hi)
-leafEdge (Cat a b) c = bytes
-leafEdge (Alt a b) c = bytes
-leafEdge (Star a) c = bytes
+leafEdge u c = cond (eqb (kindOf u) (kindOf (Range 0 0))) (rangeEdge c (firstOf u) (secondOf u)) bytes
 
 -- on the way through the term in cell i: no more places wait than nodes were passed, and the least edge so far, that of the term at hand
 -- and those of the terms that wait together make the term's

@@ -7,9 +7,9 @@ ghost use Rattle.number.specs.Limits.{lastByte};
 ghost use Rattle.meaning.specs.Edges.{nextEdge};
 ghost use Rattle.meaning.specs.Limited.{short};
 ghost use Rattle.term.specs.Cells.{term, Sound};
-ghost use Rattle.term.specs.Nodes.{secondOf};
+ghost use Rattle.term.specs.Nodes.{Fields};
 ghost use Rattle.normal.specs.Asked.{CountedLinks};
-ghost use Rattle.derivative.specs.Derives.{Derives, rangeLeft, leafLeft, restOf, bothSides, Rested, Derived};
+ghost use Rattle.derivative.specs.Derives.{Derives, leafLeft, restOf, bothSides, Rested, Derived};
 ghost use Rattle.derivative.specs.Waiting.{leafEdge};
 use choice::alt_short;
 use normal::Made;
@@ -18,54 +18,40 @@ use normal::store;
 use number::limits::BYTES;
 use term::ALT;
 use term::CAT;
-use term::STAR;
+use term::RANGE;
 use term::Term;
 use term::WAITING;
+use term::arity;
 use term::first_of;
 use term::kind_of;
 use term::node_at;
 use term::nullable;
 use term::second_of;
 
-// What a range leaves to match after a byte.
-fn read_range(lo: usize, hi: usize, byte: usize) -> Term
-    ensures { λ r. ⌜ r ≡ rangeLeft lo hi byte ⌝ }
+// What a term without parts leaves to match after a byte: only a range leaves something, where the byte lies in it.
+fn leaf_left(node: Term, byte: usize) -> Term
+    ensures { λ r. ⌜ r ≡ leafLeft node byte ⌝ }
 {
-    if byte < lo {
+    if kind_of(node) != RANGE {
         return Term::Nothing;
     }
-    if hi < byte {
+    if byte < first_of(node) {
+        return Term::Nothing;
+    }
+    if second_of(node) < byte {
         return Term::Nothing;
     }
     Term::Empty
 }
 
-// What a term without parts leaves.
-fn leaf_left(node: Term, byte: usize) -> Term
-    ensures { λ r. ⌜ r ≡ leafLeft node byte ⌝ }
-{
-    match node {
-        Term::Nothing => Term::Nothing,
-        Term::Empty => Term::Nothing,
-        Term::Range(lo, hi) => read_range(lo, hi, byte),
-        Term::Cat(_, _) => Term::Nothing,
-        Term::Alt(_, _) => Term::Nothing,
-        Term::Star(_) => Term::Nothing,
-    }
-}
-
-// What stands behind a node's first part: the second side, or the Star itself.
+// What stands behind a node's first part: the second one, or where there is none the node itself.
 fn rest_of(node: Term, i: usize) -> usize
     ensures { λ r. ⌜ r ≡ restOf node i ⌝ }
 {
-    match node {
-        Term::Nothing => 0,
-        Term::Empty => 0,
-        Term::Range(_, hi) => hi,
-        Term::Cat(_, b) => b,
-        Term::Alt(_, b) => b,
-        Term::Star(_) => i,
+    if arity(node) == 1 {
+        return i;
     }
+    second_of(node)
 }
 
 // The first part's derivative with the rest behind it; in an Alt it stands alone.
@@ -98,11 +84,11 @@ pub fn derive(cells: &mut [u64], top: usize, i: usize, byte: usize) -> Made
     ensures { λ r. ⌜ Derived (now (cells .entry)) top i byte (now (cells .exit)) r ⌝ }
 {
     let node = node_at(cells, i);
-    let kind = kind_of(node);
-    if kind < CAT {
+    if arity(node) == 0 {
         let made = store(cells, top, leaf_left(node, byte));
         return Made::Term(made.root, made.top);
     }
+    let kind = kind_of(node);
     let a = first_of(node);
     let rest = rest_of(node, i);
     let Made::Term(da, first) = derive(cells, top, a, byte) else {
@@ -131,25 +117,21 @@ fn smaller(m: usize, n: usize) -> usize
 
 // The next byte at which a term without parts has an edge, or the number of bytes if there is none.
 fn leaf_edge(leaf: Term, byte: usize) -> usize
-    requires { ⌜ secondOf leaf ≤ lastByte ⌝ }
+    requires { ⌜ Fields leaf ⌝ }
     ensures { λ r. ⌜ r ≡ leafEdge leaf byte ⌝ }
 {
-    match leaf {
-        Term::Nothing => BYTES,
-        Term::Empty => BYTES,
-        Term::Range(lo, hi) => {
-            if byte < lo {
-                return lo;
-            }
-            if byte <= hi {
-                return hi + 1;
-            }
-            BYTES
-        }
-        Term::Cat(_, _) => BYTES,
-        Term::Alt(_, _) => BYTES,
-        Term::Star(_) => BYTES,
+    if kind_of(leaf) != RANGE {
+        return BYTES;
     }
+    let lo = first_of(leaf);
+    if byte < lo {
+        return lo;
+    }
+    let hi = second_of(leaf);
+    if byte <= hi {
+        return hi + 1;
+    }
+    BYTES
 }
 
 // The next byte at which some range of a term starts or has just ended, or the number of bytes if there is none.
@@ -161,7 +143,7 @@ pub fn next_edge(cells: &[u64], i: usize, byte: usize) -> usize
     ensures { λ r. ⌜ r ≡ nextEdge byte (term (now (cells .entry)) i) ⌝ }
 {
     let whole = node_at(cells, i);
-    if kind_of(whole) < CAT {
+    if arity(whole) == 0 {
         return leaf_edge(whole, byte);
     }
     let mut waiting = [0u16; WAITING];
@@ -170,8 +152,8 @@ pub fn next_edge(cells: &[u64], i: usize, byte: usize) -> usize
     let mut at = i;
     loop {
         let node = node_at(cells, at);
-        let kind = kind_of(node);
-        if kind < CAT {
+        let children = arity(node);
+        if children == 0 {
             least = smaller(least, leaf_edge(node, byte));
             if count == 0 {
                 return least;
@@ -181,7 +163,7 @@ pub fn next_edge(cells: &[u64], i: usize, byte: usize) -> usize
             continue;
         }
         at = first_of(node);
-        if kind == STAR {
+        if children == 1 {
             continue;
         }
         waiting[count] = second_of(node) as u16;

@@ -84,10 +84,6 @@ unfolding step byKey marksOf
 mark-step c e (bared b) fs n h = rw (mark-key c h) refl
 mark-step c e (held b r l) fs n h = rw (mark-key c h) refl
 
-mark-there : (c : ℕ) → marking c ≡ true → c ≡ 10 → ⊥
-unfolding marking
-mark-there c e h = no-both (sym (sym (rw h refl) ∙ e))
-
 marked-adds : {c₀ cells cells′ : List ℕ} {start t t′ : ℕ} (m : Mark) (e : Exp) → Adds c₀ start (postfix e) cells t → Marked m cells start t cells′ t′
     → Adds c₀ start (postfix (marked m e)) cells′ t′
 marked-adds m e a d =

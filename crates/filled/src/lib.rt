@@ -49,7 +49,7 @@ fn fill_labels(cells: &[u64], n: usize, count: usize, labels: &mut [u8])
 {
     let mut i: usize = 0;
     while i < count {
-        labels[i] = vector::label_of(cells, vector::load(cells, i), n) as u8;
+        labels[i] = vector::label_of(cells, vector::load(cells, i), 0, n) as u8;
         i += 1;
     }
 }

@@ -4,11 +4,12 @@ use Prim.Native.Nat.{ℕ, _/_, _%_}
 use mathlib.Core.Bool.{cond}
 use mathlib.Core.List.{List, [], _∷_, _++_}
 use lib.Dec.{eqb}
+use Rattle.number.specs.Limits.{codeRange}
 use Rattle.number.specs.Numbers.{writeNumber}
 
 -- a code; and a range's bounds, which stand above it
 unfoldable pub cellBytes : ℕ → List ℕ
-cellBytes x = writeNumber (x % 8) ++ cond (eqb (x % 8) 2) (writeNumber (x / 8 / 256) ++ writeNumber (x / 8 % 256)) []
+cellBytes x = writeNumber (x % 8) ++ cond (eqb (x % 8) codeRange) (writeNumber (x / 8 / 256) ++ writeNumber (x / 8 % 256)) []
 
 unfoldable pub cellsBytes : List ℕ → List ℕ
 cellsBytes [] = []

@@ -6,7 +6,7 @@ use mathlib.Core.Bool.{cond}
 use mathlib.Core.List.{List, [], _∷_, _++_, map}
 use lib.Dec.{eqb}
 use lib.ListN.{length, take}
-use Rattle.number.specs.Limits.{nodes}
+use Rattle.number.specs.Limits.{nodes, codeNothing, codeEmpty, codeRange, codeCat, codeAlt, codeStar, codeEither}
 use Rattle.book.specs.declared.Node.{Node}
 use Rattle.book.specs.declared.Node.the-variants.{Nothing, Empty, Range, Cat, Alt, Star, Either}
 use Rattle.typed.specs.Exp.{Exp, postfix}
@@ -15,13 +15,13 @@ use Rattle.typed.specs.Reader.Mark.{many, more, perhaps}
 
 -- a node in a cell
 abbrev pub pack : Node → ℕ
-pack Nothing = 0
-pack Empty = 1
-pack (Range lo hi) = (lo * 256 + hi) * 8 + 2
-pack Cat = 3
-pack Alt = 4
-pack Star = 5
-pack (Either x) = x * 8 + 6
+pack Nothing = codeNothing
+pack Empty = codeEmpty
+pack (Range lo hi) = (lo * 256 + hi) * 8 + codeRange
+pack Cat = codeCat
+pack Alt = codeAlt
+pack Star = codeStar
+pack (Either x) = x * 8 + codeEither
 
 -- a count that stops one past a limit
 pub data Capped (limit : ℕ) : ℕ → ℕ → Type 0 where

@@ -13,21 +13,26 @@ ghost use Rattle.laid.specs.Tables.{table, starts, setAt, rangeNodes};
 
 pub mod writing;
 
+use number::limits::CODE_ALT;
+use number::limits::CODE_CAT;
+use number::limits::CODE_EMPTY;
+use number::limits::CODE_RANGE;
+use number::limits::CODE_STAR;
 use number::limits::NODES;
 
 // The count of more nodes than there is room for.
 const OVER: usize = NODES + 1;
 
 // Nodes in cells: a code, and for a range its bounds above it.
-pub const EMPTY: u32 = 1;
+pub const EMPTY: u32 = CODE_EMPTY as u32;
 
-pub(crate) const RANGE: u32 = 2;
+pub(crate) const RANGE: u32 = CODE_RANGE as u32;
 
-pub const CAT: u32 = 3;
+pub const CAT: u32 = CODE_CAT as u32;
 
-pub const ALT: u32 = 4;
+pub const ALT: u32 = CODE_ALT as u32;
 
-const STAR: u32 = 5;
+const STAR: u32 = CODE_STAR as u32;
 
 // A range of bytes.
 struct Span {

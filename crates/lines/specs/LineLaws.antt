@@ -45,22 +45,7 @@ module _ (k : ℕ) where
   differs-most a b c ha hb hc =
       simp length-append (omega (arith, item-most a space ha, item-most b space hb, item-most c newline hc))
 
--- ---- what the numbers of the programs take: below 2^20, and any of 64 bits
-
-pub word-short : (a b c d : ℕ) → a < 2 ^ 20 → b < 2 ^ 20 → c < 2 ^ 20 → d < 2 ^ 20 → length (wordLine a b c d) ≤ 32
-word-short a b c d ha hb hc hd = word-most 6 a b c d (omega arith) (omega arith) (omega arith) (omega arith)
-
-pub done-short : (n : ℕ) → n < 2 ^ 20 → length (doneLine n) ≤ 32
-done-short n h = omega (arith, done-most 6 n (omega arith))
-
-pub stuck-short : (n : ℕ) → n < 2 ^ 20 → length (stuckLine n) ≤ 32
-stuck-short n h = omega (arith, stuck-most 6 n (omega arith))
-
-pub refused-short : (r : Refusal) → number r < 2 ^ 20 → place r < 2 ^ 20 → length (refusedLine r) ≤ 32
-refused-short r h g = omega (arith, refused-most 6 r (omega arith) (omega arith))
-
-pub differs-short : (a b c : ℕ) → a < 2 ^ 20 → b < 2 ^ 20 → c < 2 ^ 20 → length (differsLine a b c) ≤ 32
-differs-short a b c ha hb hc = differs-most 6 a b c (omega arith) (omega arith) (omega arith)
+-- ---- what any number of 64 bits takes
 
 pub decimal-fits : (n : ℕ) → n < 2 ^ 64 → length (decimal n) + 1 ≤ itemRoom
 decimal-fits n h = omega (arith, decimal-most 19 n (omega arith))

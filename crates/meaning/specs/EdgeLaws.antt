@@ -1,6 +1,6 @@
 -- Two bytes with no edge between them have one derivative, of a term and of a row; and an edge is always further on.
 -- So a loop that goes from edge to edge passes every byte and ends at the number of bytes.
-use Prim.Native.Nat.{ℕ, _+_, _≤_, _<_}
+use Prim.Native.Nat.{ℕ, _+_, _≤_, _<_, min}
 use native.Mathlib.Omega.{arith}
 use mathlib.Core.Path.{_≡_, refl, ap}
 use mathlib.Core.Bool.{Bool, true, false, cond, _&&_}
@@ -9,51 +9,60 @@ use lib.Dec.{leb, ltb}
 use borrow.Author.Tests.{ltb-true, ltb-false, leb-true, leb-false, le-leb, lt-leb}
 use Rattle.number.specs.Branch.{by-cond}
 use Rattle.number.specs.Limits.{bytes, lastByte}
-use Rattle.meaning.specs.Re.{Re}
+use Rattle.meaning.specs.Re.{Re, parts}
 use Rattle.meaning.specs.Re.Re.{Nothing, Empty, Range, Cat, Alt, Star}
+use Rattle.meaning.specs.PartLaws.{All, all, by-parts, upward-parts}
 use Rattle.meaning.specs.Derive.{nullable, deriv}
 use Rattle.meaning.specs.Limited.{derivFit}
 use Rattle.meaning.specs.Limited.Fit.{Fits}
-use Rattle.meaning.specs.Edges.{nextEdge, nextEdgeAll, Bounded}
+use Rattle.meaning.specs.Edges.{rangeEdge, ownEdge, least, nextEdge, nextEdgeAll}
+
+-- by the parts of a term, and by the terms of a row
+pub edge-parts : (c : ℕ) (r : Re) → nextEdge c r ≡ min (ownEdge c r) (nextEdgeAll c (parts r))
+unfolding nextEdge nextEdgeAll
+edge-parts c r = upward-parts (λ r es. min (ownEdge c r) (least es)) r
+
+pub edge-none : (c : ℕ) → nextEdgeAll c [] ≡ bytes
+unfolding nextEdgeAll least
+edge-none c = refl
+
+pub edge-more : (c : ℕ) (r : Re) (rs : List Re) → nextEdgeAll c (r ∷ rs) ≡ min (nextEdge c r) (nextEdgeAll c rs)
+unfolding nextEdgeAll least
+edge-more c r rs = refl
 
 -- an edge is further on
-pub edge-after : (c : ℕ) (r : Re) → c ≤ lastByte → c < nextEdge c r
-unfolding nextEdge
-edge-after c Nothing h = omega arith
-edge-after c Empty h = omega arith
-edge-after c (Range lo hi) h =
+own-after : (c : ℕ) (r : Re) → c ≤ lastByte → c < ownEdge c r
+unfolding rangeEdge
+own-after c Nothing h = omega arith
+own-after c Empty h = omega arith
+own-after c (Range lo hi) h =
     by-cond (λ (n : ℕ). c < n) (ltb c lo) (λ e. ltb-true c lo e)
     (λ _. by-cond (λ (n : ℕ). c < n) (leb c hi) (λ e. omega (arith, leb-true c hi e)) (λ _. omega arith))
-edge-after c (Cat a b) h = omega (arith, edge-after c a h, edge-after c b h)
-edge-after c (Alt a b) h = omega (arith, edge-after c a h, edge-after c b h)
-edge-after c (Star a) h = edge-after c a h
+own-after c (Cat a b) h = omega arith
+own-after c (Alt a b) h = omega arith
+own-after c (Star a) h = omega arith
+
+all-after : (c : ℕ) (v : List Re) → c ≤ lastByte → All (λ r. c < nextEdge c r) v → c < nextEdgeAll c v
+all-after c [] h a = omega (arith, edge-none c)
+all-after c (r ∷ rs) h a = omega (arith, edge-more c r rs, a .0, all-after c rs h (a .1))
+
+pub edge-after : (c : ℕ) (r : Re) → c ≤ lastByte → c < nextEdge c r
+edge-after c r h = by-parts (λ x. c < nextEdge c x) (λ x a. omega (arith, edge-parts c x, own-after c x h, all-after c (parts x) h a)) r
 
 pub edge-all-after : (c : ℕ) (v : List Re) → c ≤ lastByte → c < nextEdgeAll c v
-unfolding nextEdgeAll
-edge-all-after c [] h = omega arith
-edge-all-after c (r ∷ rs) h = omega (arith, edge-after c r h, edge-all-after c rs h)
+edge-all-after c v h = all-after c v h (all (λ r. c < nextEdge c r) (λ r. edge-after c r h) v)
 
 -- and not past the last byte's end
-pub edge-within : (c : ℕ) (r : Re) → Bounded r → nextEdge c r ≤ bytes
-unfolding nextEdge
-edge-within c Nothing b = omega arith
-edge-within c Empty b = omega arith
-edge-within c (Range lo hi) b =
-    by-cond (λ (n : ℕ). n ≤ bytes) (ltb c lo) (λ _. omega (arith, b .0))
-    (λ _. by-cond (λ (n : ℕ). n ≤ bytes) (leb c hi) (λ _. omega (arith, b .1)) (λ _. omega arith))
-edge-within c (Cat x y) b = omega (arith, edge-within c x (b .0))
-edge-within c (Alt x y) b = omega (arith, edge-within c x (b .0))
-edge-within c (Star x) b = edge-within c x b
-
--- of a row not even where a range is no range of bytes, for the empty row already gives the number of bytes
 pub edge-all-within : (c : ℕ) (v : List Re) → nextEdgeAll c v ≤ bytes
-unfolding nextEdgeAll
-edge-all-within c [] = omega arith
-edge-all-within c (r ∷ rs) = omega (arith, edge-all-within c rs)
+edge-all-within c [] = omega (arith, edge-none c)
+edge-all-within c (r ∷ rs) = omega (arith, edge-more c r rs, edge-all-within c rs)
+
+pub edge-within : (c : ℕ) (r : Re) → nextEdge c r ≤ bytes
+edge-within c r = omega (arith, edge-parts c r, edge-all-within c (parts r))
 
 -- a range holds both bytes or neither
-range-edge : (c d lo hi : ℕ) → c ≤ d → d < nextEdge c (Range lo hi) → (leb lo d && leb d hi) ≡ (leb lo c && leb c hi)
-unfolding nextEdge
+range-edge : (c d lo hi : ℕ) → c ≤ d → d < rangeEdge c lo hi → (leb lo d && leb d hi) ≡ (leb lo c && leb c hi)
+unfolding rangeEdge
 range-edge c d lo hi h = below (ltb c lo) refl
   where
     inside : (t : Bool) → leb c hi ≡ t → lo ≤ c → d < cond t (hi + 1) bytes → (leb lo d && leb d hi) ≡ (leb lo c && leb c hi)
@@ -72,20 +81,20 @@ range-edge c d lo hi h = below (ltb c lo) refl
 
 -- no edge between: one derivative
 pub deriv-edge : (c d : ℕ) (r : Re) → c ≤ d → d < nextEdge c r → deriv d r ≡ deriv c r
-unfolding nextEdge deriv
+unfolding nextEdge least deriv
 deriv-edge c d Nothing h k = refl
 deriv-edge c d Empty h k = refl
-deriv-edge c d (Range lo hi) h k = rw (range-edge c d lo hi h k)
+deriv-edge c d (Range lo hi) h k = rw (range-edge c d lo hi h (omega arith))
 deriv-edge c d (Cat a b) h k = go (nullable a) refl (deriv-edge c d a h (omega arith)) (deriv-edge c d b h (omega arith))
   where
     go : (n : Bool) → nullable a ≡ n → deriv d a ≡ deriv c a → deriv d b ≡ deriv c b → deriv d (Cat a b) ≡ deriv c (Cat a b)
     go true e p q = rw (e, deriv) (rw (p, q))
     go false e p q = rw (e, deriv) (rw p)
 deriv-edge c d (Alt a b) h k = rw (deriv-edge c d a h (omega arith), deriv-edge c d b h (omega arith))
-deriv-edge c d (Star a) h k = rw (deriv-edge c d a h k)
+deriv-edge c d (Star a) h k = rw (deriv-edge c d a h (omega arith))
 
 pub fit-edge : (c d : ℕ) (r : Re) → c ≤ d → d < nextEdge c r → derivFit d r ≡ derivFit c r
-unfolding nextEdge derivFit
+unfolding nextEdge least derivFit
 fit-edge c d Nothing h k = refl
 fit-edge c d Empty h k = refl
 fit-edge c d (Range lo hi) h k = ap Fits (deriv-edge c d (Range lo hi) h k)
@@ -95,15 +104,15 @@ fit-edge c d (Cat a b) h k = go (nullable a) refl (fit-edge c d a h (omega arith
     go true e p q = rw (e, derivFit) (rw (p, q))
     go false e p q = rw (e, derivFit) (rw p)
 fit-edge c d (Alt a b) h k = rw (fit-edge c d a h (omega arith), fit-edge c d b h (omega arith))
-fit-edge c d (Star a) h k = rw (fit-edge c d a h k)
+fit-edge c d (Star a) h k = rw (fit-edge c d a h (omega arith))
 
 -- of a row
 pub row-edge : (c d : ℕ) (v : List Re) → c ≤ d → d < nextEdgeAll c v → map (deriv d) v ≡ map (deriv c) v
-unfolding nextEdgeAll
+unfolding nextEdgeAll least
 row-edge c d [] h k = refl
 row-edge c d (r ∷ rs) h k = rw (deriv-edge c d r h (omega arith), row-edge c d rs h (omega arith))
 
 pub row-fit-edge : (c d : ℕ) (v : List Re) → c ≤ d → d < nextEdgeAll c v → map (derivFit d) v ≡ map (derivFit c) v
-unfolding nextEdgeAll
+unfolding nextEdgeAll least
 row-fit-edge c d [] h k = refl
 row-fit-edge c d (r ∷ rs) h k = rw (fit-edge c d r h (omega arith), row-fit-edge c d rs h (omega arith))

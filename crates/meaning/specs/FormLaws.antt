@@ -2,16 +2,20 @@
 -- Meaning and shape alone would let a sequence or a derivative come out as another term that matches the same.
 use Prim.Native.Nat.{ℕ}
 use mathlib.Core.Path.{_≡_, refl, sym, ap, subst, _∙_}
-use mathlib.Core.Bool.{Bool, true, false, cond, _&&_}
-use mathlib.Core.Logic.{_↔_}
+use mathlib.Core.Bool.{Bool, true, false, cond, _&&_, _||_}
+use mathlib.Core.List.{List}
+use mathlib.Core.Logic.{_↔_, inl, inr}
 use lib.Dec.{leb}
+use Rattle.number.specs.Branch.{by-cond}
 use Rattle.meaning.specs.Re.{Re, isNothing, isEmpty}
 use Rattle.meaning.specs.Re.Re.{Nothing, Empty, Range, Cat, Alt, Star}
-use Rattle.meaning.specs.Normal.{chain, cat, gathered, alt, star, normal}
+use Rattle.meaning.specs.Normal.{chain, cat, kept, sorted, nested, alt, star, normal}
 use Rattle.meaning.specs.Derive.{nullable, deriv, plain}
 use Rattle.meaning.specs.Shape.{InShape, Repeated}
-use Rattle.meaning.specs.ShapeLaws.{alone, cat-chain, chain-one, chain-cat, cat-some, cat-long, shape-normal}
-use Rattle.meaning.specs.Tests.{clash, is-nothing, is-empty}
+use Rattle.meaning.specs.declared.Join.the-variants.{Then, Or}
+use Rattle.meaning.specs.JoinLaws.{gathered-joined, by-members, chain-one}
+use Rattle.meaning.specs.ShapeLaws.{alone, cat-chain, chain-some, chain-long, shape-normal}
+use Rattle.meaning.specs.Tests.{clash, or-true, or-of-true, is-nothing, is-empty}
 
 -- a Star in shape
 star-own : (a : Re) → Repeated a → star a ≡ Star a
@@ -25,8 +29,8 @@ star-own (Star a) r = absurd (clash refl (r .no-star))
 
 -- a choice in shape
 alt-own : (a b : Re) → InShape (Alt a b) → alt a b ≡ Alt a b
-unfolding alt gathered
-alt-own a b s = alone (Alt a b) s
+unfolding alt
+alt-own a b s = ap (λ (xs : List Re). nested Or (sorted (kept xs))) (sym (gathered-joined Or a b)) ∙ alone Or tt (Alt a b) s
 
 -- a sequence in shape
 cat-own : (a b : Re) → InShape (Cat a b) → cat a b ≡ Cat a b
@@ -53,38 +57,23 @@ cat-nothing-left b = refl
 
 pub cat-nothing-right : (a : Re) → cat a Nothing ≡ Nothing
 unfolding cat
-cat-nothing-right Nothing = refl
-cat-nothing-right Empty = refl
-cat-nothing-right (Range lo hi) = refl
-cat-nothing-right (Cat a b) = refl
-cat-nothing-right (Alt a b) = refl
-cat-nothing-right (Star a) = refl
+cat-nothing-right a = rw (or-of-true (isNothing a) {b = true} refl)
 
 pub cat-empty-left : (b : Re) → cat Empty b ≡ b
 unfolding cat
-cat-empty-left b = go (isNothing b) refl
-  where
-    go : (n : Bool) → isNothing b ≡ n → cond n Nothing b ≡ b
-    go true e = sym (is-nothing b e)
-    go false e = refl
+cat-empty-left b = by-cond (λ r. r ≡ b) (isNothing b) (λ e. sym (is-nothing b e)) (λ _. refl)
 
 pub cat-empty-right : (a : Re) → cat a Empty ≡ a
 unfolding cat
-cat-empty-right Nothing = refl
-cat-empty-right Empty = refl
-cat-empty-right (Range lo hi) = refl
-cat-empty-right (Cat a b) = refl
-cat-empty-right (Alt a b) = refl
-cat-empty-right (Star a) = refl
+cat-empty-right a =
+    by-cond (λ r. r ≡ a) (isNothing a || false) (λ e. elim (or-true (isNothing a) false e) [ inl d ↦ sym (is-nothing a d) | inr d ↦ absurd (clash d refl) ])
+    (λ _. by-cond (λ r. r ≡ a) (isEmpty a) (λ e. sym (is-empty a e)) (λ _. refl))
 
 chain-again : (x y z : Re) → chain (chain x y) z ≡ chain x (chain y z)
 unfolding chain
-chain-again Nothing y z = refl
-chain-again Empty y z = refl
-chain-again (Range lo hi) y z = refl
-chain-again (Cat a b) y z = ap (Cat a) (chain-again b y z)
-chain-again (Alt a b) y z = refl
-chain-again (Star a) y z = refl
+chain-again x y z =
+    by-members Then (λ r. chain (chain r y) z ≡ chain r (chain y z))
+    (λ r e. rw (chain-one r y e, chain-one r (chain y z) e)) (λ a b _ ih. ap (Cat a) ih) x
 
 pub cat-again : (x y z : Re) → cat (cat x y) z ≡ cat x (cat y z)
 cat-again x y z = go (isNothing x) (isNothing y) (isNothing z) (isEmpty x) (isEmpty y) (isEmpty z) refl refl refl refl refl refl
@@ -101,8 +90,8 @@ cat-again x y z = go (isNothing x) (isNothing y) (isNothing z) (isEmpty x) (isEm
         rw (
           cat-chain x y a d b e,
           cat-chain y z b e c f,
-          cat-chain (chain x y) z (cat-some (chain x y) (chain-cat x y)) (cat-long (chain x y) (chain-cat x y)) c f,
-          cat-chain x (chain y z) a d (cat-some (chain y z) (chain-cat y z)) (cat-long (chain y z) (chain-cat y z)),
+          cat-chain (chain x y) z (chain-some x y) (chain-long x y) c f,
+          cat-chain x (chain y z) a d (chain-some y z) (chain-long y z),
         )
         (chain-again x y z)
 

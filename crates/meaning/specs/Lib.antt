@@ -1,4 +1,4 @@
--- What word rules mean. Definitions, in reading order: Re, Lang, Means, Order, Normal, Derive, Limited, Rules, Words, Sample, Clauses, Forms, Lengths, Shape, Edges.
+-- What word rules mean. Definitions, in reading order: Re, Lang, Means, Order, Normal (with Join, which src declares), Derive, Limited, Rules, Words, Sample, Clauses, Forms, Lengths, Shape, Edges.
 -- The other files prove things of these; Main gathers the theorems that are bought.
 pub mod Re
 pub mod PartLaws
@@ -9,6 +9,7 @@ pub mod Order
 pub mod OrderLaws
 pub mod RowLaws
 pub mod Normal
+pub mod JoinLaws
 pub mod Derive
 pub mod Tests
 pub mod NormalMeans

@@ -2,10 +2,10 @@
 -- On the way stand the results of all parts that are worked out, each in normal form; LimitedLaws says exactly when Long comes.
 use Prim.Native.Nat.{ℕ, _<_}
 use mathlib.Core.Bool.{Bool, true, false, cond, _&&_}
-use mathlib.Core.List.{List, [], _∷_, _++_}
+use mathlib.Core.List.{List, [], _∷_, _++_, flatMap}
 use lib.Dec.{leb}
 use Rattle.number.specs.Limits.{treeNodes}
-use Rattle.meaning.specs.Re.{Re, size}
+use Rattle.meaning.specs.Re.{Re, upward, size}
 use Rattle.meaning.specs.Re.Re.{Nothing, Empty, Range, Cat, Alt, Star}
 use Rattle.meaning.specs.Normal.{cat, alt, star, normal}
 use Rattle.meaning.specs.Derive.{nullable, deriv}
@@ -64,7 +64,8 @@ normalFit (Star a) = do
   na ← normalFit a
   fit (star na)
 
--- the results on the way to a derivative: its own, and those of the parts that are worked out for it
+-- the results on the way to a derivative: its own, and those of the parts that are worked out for it; of a Cat whose second side is worked
+-- out, also the left side of the choice that comes of it
 unfoldable pub derivResults : ℕ → Re → List Re
 derivResults c Nothing = deriv c Nothing ∷ []
 derivResults c Empty = deriv c Empty ∷ []
@@ -75,12 +76,8 @@ derivResults c (Star a) = deriv c (Star a) ∷ derivResults c a
 
 -- the results on the way to a normal form: its own, and those of its parts
 unfoldable pub normalResults : Re → List Re
-normalResults Nothing = normal Nothing ∷ []
-normalResults Empty = normal Empty ∷ []
-normalResults (Range lo hi) = normal (Range lo hi) ∷ []
-normalResults (Cat a b) = normal (Cat a b) ∷ (normalResults a ++ normalResults b)
-normalResults (Alt a b) = normal (Alt a b) ∷ (normalResults a ++ normalResults b)
-normalResults (Star a) = normal (Star a) ∷ normalResults a
+unfolding upward flatMap
+normalResults = upward (λ r results. normal r ∷ flatMap (λ rs. rs) results)
 
 -- each of them is short enough
 unfoldable pub allShort : List Re → Bool

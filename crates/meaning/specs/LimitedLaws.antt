@@ -11,12 +11,13 @@ use borrow.Author.Tests.{leb-false, lt-leb}
 use Rattle.number.specs.Limits.{treeNodes}
 use Rattle.meaning.specs.Re.{Re, size}
 use Rattle.meaning.specs.Re.Re.{Nothing, Empty, Range, Cat, Alt, Star}
+use Rattle.meaning.specs.PartLaws.{upward-parts}
 use Rattle.meaning.specs.Normal.{cat, alt, star, normal}
 use Rattle.meaning.specs.Derive.{nullable, deriv}
 use Rattle.meaning.specs.Limited.{Fit, _>>=_, short, fit, derivFit, normalFit, derivResults, normalResults, allShort, Over}
 use Rattle.meaning.specs.Limited.Fit.{Long, Fits}
 use Rattle.meaning.specs.Limited.Over.{here, later}
-use Rattle.meaning.specs.Tests.{clash}
+use Rattle.meaning.specs.Tests.{clash, and-true}
 
 -- a result, if a test allows it
 abbrev pub allowed : Bool → Re → Fit
@@ -114,9 +115,9 @@ unfolding normalFit normalResults allShort normal size
 normal-fits Nothing = refl
 normal-fits Empty = refl
 normal-fits (Range lo hi) = refl
-normal-fits (Cat a b) = part-two (normalResults a) (normalResults b) (normal a) (normal b) cat (normal-fits a) (normal-fits b)
-normal-fits (Alt a b) = part-two (normalResults a) (normalResults b) (normal a) (normal b) alt (normal-fits a) (normal-fits b)
-normal-fits (Star a) = part-one (normalResults a) (normal a) star (normal-fits a)
+normal-fits (Cat a b) = rw (append-nil (normalResults b)) (part-two (normalResults a) (normalResults b) (normal a) (normal b) cat (normal-fits a) (normal-fits b))
+normal-fits (Alt a b) = rw (append-nil (normalResults b)) (part-two (normalResults a) (normalResults b) (normal a) (normal b) alt (normal-fits a) (normal-fits b))
+normal-fits (Star a) = rw (append-nil (normalResults a)) (part-one (normalResults a) (normal a) star (normal-fits a))
 
 over : (rs : List Re) → allShort rs ≡ false → Over rs
 unfolding allShort
@@ -162,3 +163,31 @@ normal-long r = (
 
 pub normal-short : (r x : Re) → normalFit r ≡ Fits x → x ≡ normal r
 normal-short r x e = allowed-fits (allShort (normalResults r)) (normal r) x (sym (normal-fits r) ∙ e)
+
+-- what fits is short, since it is itself among the results on the way
+first-short : (r : Re) (rs : List Re) → allShort (r ∷ rs) ≡ true → short r ≡ true
+unfolding allShort
+first-short r rs e = and-true (short r) (allShort rs) e .0
+
+deriv-own : (c : ℕ) (r : Re) → allShort (derivResults c r) ≡ true → short (deriv c r) ≡ true
+unfolding derivResults
+deriv-own c Nothing e = first-short _ _ e
+deriv-own c Empty e = first-short _ _ e
+deriv-own c (Range lo hi) e = first-short _ _ e
+deriv-own c (Cat a b) e = first-short _ _ e
+deriv-own c (Alt a b) e = first-short _ _ e
+deriv-own c (Star a) e = first-short _ _ e
+
+normal-own : (r : Re) → allShort (normalResults r) ≡ true → short (normal r) ≡ true
+unfolding normalResults
+normal-own r e = first-short (normal r) _ (rw (upward-parts _ r) at e)
+
+allowed-short : (b : Bool) (r x : Re) → (b ≡ true → short r ≡ true) → allowed b r ≡ Fits x → short x ≡ true
+allowed-short true r x f e = rw (allowed-fits true r x e) (f refl)
+allowed-short false r x f e = absurd (let z : _≡_ {A = ℕ} 0 1 = cc in omega arith)
+
+pub deriv-fits-short : (c : ℕ) (r x : Re) → derivFit c r ≡ Fits x → short x ≡ true
+deriv-fits-short c r x e = allowed-short _ (deriv c r) x (deriv-own c r) (sym (deriv-fits c r) ∙ e)
+
+pub normal-fits-short : (r x : Re) → normalFit r ≡ Fits x → short x ≡ true
+normal-fits-short r x e = allowed-short _ (normal r) x (normal-own r) (sym (normal-fits r) ∙ e)

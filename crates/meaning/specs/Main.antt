@@ -1,5 +1,5 @@
 -- The theorems of this layer that are bought, together; each is proved in the file that its proof names.
--- To believe them, read only the definitions: Re, Lang, Means, Order, Normal, Derive, Limited, Rules, Words, Shape; and the lists: Sample, Clauses, Forms, Lengths.
+-- To believe them, read only the definitions: Re, Lang, Means, Order, Normal (with Join, which src declares), Derive, Limited, Rules, Words, Shape; and the lists: Sample, Clauses, Forms, Lengths.
 use Prim.Native.Nat.{ℕ, _<_, Ordering·lt, Ordering·eq}
 use mathlib.Core.Path.{_≡_}
 use mathlib.Core.Bool.{true}
@@ -7,6 +7,7 @@ use mathlib.Core.List.{List, [], _∷_, map}
 use mathlib.Core.Logic.{_↔_, _⊎_}
 use Rattle.meaning.specs.Re.{Re, Text, size}
 use Rattle.meaning.specs.Re.Re.{Nothing, Empty, Range, Cat, Alt, Star}
+use Rattle.meaning.specs.declared.Join.the-variants.{Or}
 use Rattle.meaning.specs.Means.{Matches}
 use Rattle.meaning.specs.Order.{order, turned}
 use Rattle.meaning.specs.OrderLaws.{order-self, order-equal, order-turned, order-trans}
@@ -86,7 +87,7 @@ the-sequence = record {
 
 -- Alt of two terms in shape: the one term in shape whose members are those of both sides
 pub the-choice : (a b r : Re) → InShape a → InShape b
-    → (InShape r × ((x : Re) → MemberOf x r ↔ (MemberOf x a ⊎ MemberOf x b))) ↔ (r ≡ alt a b)
+    → (InShape r × ((x : Re) → MemberOf Or x r ↔ (MemberOf Or x a ⊎ MemberOf Or x b))) ↔ (r ≡ alt a b)
 the-choice = alt-is
 
 -- nullable is matching the empty text

@@ -2,20 +2,24 @@
 -- Two lists that rise and hold the same are one list; gathering, dropping, sorting and nesting keep what is held.
 use Prim.Native.Nat.{ℕ, Ordering, Ordering·lt, Ordering·eq, Ordering·gt}
 use mathlib.Core.Path.{_≡_, refl, sym, ap, subst, _∙_}
-use mathlib.Core.Bool.{Bool, true, false, cond}
+use mathlib.Core.Bool.{Bool, true, false}
 use mathlib.Core.List.{List, [], _∷_, _++_}
 use mathlib.Core.Logic.{_↔_, _⊎_, inl, inr}
 use native.Mathlib.Omega.{arith}
 use Rattle.meaning.specs.Re.{Re, isNothing}
-use Rattle.meaning.specs.Re.Re.{Nothing, Empty, Range, Cat, Alt, Star}
+use Rattle.meaning.specs.Re.Re.{Nothing}
+use Rattle.meaning.specs.PartLaws.{All}
 use Rattle.meaning.specs.Order.{order}
 use Rattle.meaning.specs.OrderLaws.{order-self, order-equal, order-trans}
-use Rattle.meaning.specs.Normal.{gathered, kept, placed, sorted, nested, alt, Before}
-use Rattle.meaning.specs.NormalShape.{Rising, sorted-rising}
-use Rattle.meaning.specs.Shape.{isAlt, InShape, MemberOf}
+use Rattle.meaning.specs.declared.Join.{Join}
+use Rattle.meaning.specs.declared.Join.the-variants.{Or}
+use Rattle.meaning.specs.Normal.{gathered, placed, sorted, nested, alt, Before}
+use Rattle.meaning.specs.JoinLaws.{by-members, gathered-alone, gathered-joined}
+use Rattle.meaning.specs.NormalShape.{Rising}
+use Rattle.meaning.specs.Shape.{Sorts, InShape, MemberOf, headOf, united}
 use Rattle.meaning.specs.Shape.MemberOf.{itself, from-left, from-right}
-use Rattle.meaning.specs.ShapeLaws.{gathered-alone, alone, shape-alt}
-use Rattle.meaning.specs.Tests.{clash}
+use Rattle.meaning.specs.ShapeLaws.{Member, gathered-head, gathered-members, gathered-rising, nested-gathered, sorted-both, gathered-united, united-some, shape-united, by-sides, shape-alt}
+use Rattle.meaning.specs.Tests.{clash, is-nothing}
 
 -- x stands in a list
 abbrev In : Re → List Re → Type 0
@@ -93,123 +97,92 @@ in-sorted z (x ∷ xs) =
       elim [ inl e ↦ p .1 (inl e) | inr n ↦ p .1 (inr (ih .1 n)) ],
     )
 
-in-kept : (z : Re) (xs : List Re) → In z (kept xs) ↔ (In z xs × (isNothing z ≡ false))
-unfolding kept
-in-kept z [] = (λ m. absurd m, λ m. absurd (m .0))
-in-kept z (x ∷ xs) = go (isNothing x) refl (in-kept z xs)
-  where
-    go : (n : Bool) → isNothing x ≡ n → (In z (kept xs) ↔ (In z xs × (isNothing z ≡ false)))
-        → In z (cond n (kept xs) (x ∷ kept xs)) ↔ (In z (x ∷ xs) × (isNothing z ≡ false))
-    go true e ih = (
-      λ m. (inr (ih .0 m .0), ih .0 m .1),
-      λ p. elim (p .0) [ inl d ↦ absurd (clash (subst (λ (v : Re). isNothing v ≡ true) (sym d) e) (p .1)) | inr m ↦ ih .1 (m, p .1) ],
-    )
-    go false e ih = (
-      elim [ inl d ↦ (inl d, subst (λ (v : Re). isNothing v ≡ false) (sym d) e) | inr m ↦ (inr (ih .0 m .0), ih .0 m .1) ],
-      λ p. elim (p .0) [ inl d ↦ inl d | inr m ↦ inr (ih .1 (m, p .1)) ],
-    )
+all-in : (P : Re → Type 0) (xs : List Re) → All P xs → (x : Re) → In x xs → P x
+all-in P [] p x m = absurd m
+all-in P (y ∷ ys) p x (inl e) = rw e (p .0)
+all-in P (y ∷ ys) p x (inr m) = all-in P ys (p .1) x m
 
 -- members are what is gathered, without Nothing
-member-some : {x r : Re} → MemberOf x r → (isAlt x ≡ false) × (isNothing x ≡ false)
-member-some (itself p q) = (p, q)
-member-some (from-left b m) = member-some m
-member-some (from-right a m) = member-some m
+module _ {j : Join} {x : Re} where
+  member-some : {r : Re} → MemberOf j x r → isNothing x ≡ false
+  member-some (itself p q) = q
+  member-some (from-left b m) = member-some m
+  member-some (from-right a m) = member-some m
 
-gathered-one : (x : Re) → isAlt x ≡ false → In x (gathered x)
-unfolding gathered
-gathered-one Nothing e = inl refl
-gathered-one Empty e = inl refl
-gathered-one (Range lo hi) e = inl refl
-gathered-one (Cat a b) e = inl refl
-gathered-one (Alt a b) e = absurd (clash refl e)
-gathered-one (Star a) e = inl refl
+  member-in : {r : Re} → MemberOf j x r → In x (gathered j r)
+  member-in (itself p q) = rw (gathered-alone j x p) (inl refl)
+  member-in (from-left {a} b m) = rw (gathered-joined j a b) (in-append x (gathered j a) (gathered j b) .1 (inl (member-in m)))
+  member-in (from-right a {b} m) = rw (gathered-joined j a b) (in-append x (gathered j a) (gathered j b) .1 (inr (member-in m)))
 
-member-in : {x r : Re} → MemberOf x r → In x (gathered r)
-unfolding gathered
-member-in {x} (itself p q) = gathered-one x p
-member-in {x} (from-left {a} b m) = in-append x (gathered a) (gathered b) .1 (inl (member-in m))
-member-in {x} (from-right a {b} m) = in-append x (gathered a) (gathered b) .1 (inr (member-in m))
+  no-member : (r : Re) → isNothing r ≡ true → MemberOf j x r → ⊥
+  no-member r e m =
+      elim (rw (is-nothing r e, gathered-alone j Nothing refl) at (member-in m)) [
+        | inl d ↦ clash (ap isNothing d) (member-some m)
+        | inr n ↦ n
+      ]
 
--- of a term that is no Alt, the only one
-only-one : (x r : Re) → isAlt r ≡ false → isNothing x ≡ false → In x (r ∷ []) → MemberOf x r
-only-one x r p q (inl e) = subst (MemberOf x) e (itself (subst (λ (v : Re). isAlt v ≡ false) (sym e) p) q)
-only-one x r p q (inr m) = absurd m
+  in-member : isNothing x ≡ false → (r : Re) → In x (gathered j r) → MemberOf j x r
+  in-member q =
+      by-members j (λ r. In x (gathered j r) → MemberOf j x r) (λ r e m. elim (rw (gathered-alone j r e) at m) [
+        | inl d ↦ subst (MemberOf j x) d (itself (rw d e) q)
+        | inr n ↦ absurd n
+      ])
+      (λ a b f g m. elim (in-append x (gathered j a) (gathered j b) .0 (rw (gathered-joined j a b) at m)) [
+        | inl n ↦ from-left b (f n)
+        | inr n ↦ from-right a (g n)
+      ])
 
-in-member : (x r : Re) → isNothing x ≡ false → In x (gathered r) → MemberOf x r
-unfolding gathered
-in-member x Nothing q m = only-one x Nothing refl q m
-in-member x Empty q m = only-one x Empty refl q m
-in-member x (Range lo hi) q m = only-one x (Range lo hi) refl q m
-in-member x (Cat a b) q m = only-one x (Cat a b) refl q m
-in-member x (Alt a b) q m =
-    elim (in-append x (gathered a) (gathered b) .0 m) [ inl n ↦ from-left b (in-member x a q n) | inr n ↦ from-right a (in-member x b q n) ]
-in-member x (Star a) q m = only-one x (Star a) refl q m
+module _ (j : Join) (o : Sorts j) where
+  held : (r : Re) → InShape r → isNothing r ≡ false → (x : Re) → MemberOf j x r ↔ In x (gathered j r)
+  held r s n x = (member-in, λ m. in-member (all-in (Member j) (gathered j r) (gathered-members j o r s n) x m .some) r m)
 
-member-kept : (x r : Re) → MemberOf x r ↔ In x (kept (gathered r))
-member-kept x r = (
-  λ m. in-kept x (gathered r) .1 (member-in m, member-some m .1),
-  λ m. let p = in-kept x (gathered r) .0 m in in-member x r (p .1) (p .0),
-)
+  -- a term in shape is fixed by its members
+  pub one-choice : (r s : Re) → InShape r → InShape s → ((x : Re) → MemberOf j x r ↔ MemberOf j x s) → r ≡ s
+  one-choice r s p q f = go (isNothing r) (isNothing s) refl refl
+    where
+      a-member : (t : Re) → InShape t → isNothing t ≡ false → MemberOf j (headOf j t) t
+      a-member t u n = held t u n (headOf j t) .1 (subst (In (headOf j t)) (sym (gathered-head j t)) (inl refl))
 
--- a term in shape is fixed by its members
-pub one-choice : (r s : Re) → InShape r → InShape s → ((x : Re) → MemberOf x r ↔ MemberOf x s) → r ≡ s
-one-choice r s p q f =
-    sym (alone r p)
-    ∙ ap nested (rising-same (sorted (kept (gathered r))) (sorted (kept (gathered s))) (sorted-rising (kept (gathered r))) (sorted-rising (kept (gathered s)))
-    (λ z m. in-sorted z (kept (gathered s)) .1 (member-kept z s .0 (f z .0 (member-kept z r .1 (in-sorted z (kept (gathered r)) .0 m)))))
-    (λ z m. in-sorted z (kept (gathered r)) .1 (member-kept z r .0 (f z .1 (member-kept z s .1 (in-sorted z (kept (gathered s)) .0 m))))))
-    ∙ alone s q
+      go : (m n : Bool) → isNothing r ≡ m → isNothing s ≡ n → r ≡ s
+      go true true d e = is-nothing r d ∙ sym (is-nothing s e)
+      go true false d e = absurd (no-member r d (f (headOf j s) .1 (a-member s q e)))
+      go false true d e = absurd (no-member s e (f (headOf j r) .0 (a-member r p d)))
+      go false false d e =
+          sym (nested-gathered j o r p)
+          ∙ ap (nested j) (rising-same (gathered j r) (gathered j s) (gathered-rising j o r p) (gathered-rising j o s q)
+          (λ z m. held s q e z .0 (f z .0 (held r p d z .1 m)))
+          (λ z m. held r p d z .0 (f z .1 (held s q e z .1 m))))
+          ∙ nested-gathered j o s q
 
--- the members of an Alt are those of its sides
-alt-member : {x r : Re} (l m : Re) → MemberOf x r → r ≡ Alt l m → MemberOf x l ⊎ MemberOf x m
-alt-member l m (itself p q) e = absurd (clash (ap isAlt e) p)
-alt-member {x} l m (from-left {a} b n) e = let f : a ≡ l = cc in inl (subst (MemberOf x) f n)
-alt-member {x} l m (from-right a {b} n) e = let f : b ≡ m = cc in inr (subst (MemberOf x) f n)
-
--- each is a member of itself
-abbrev AllSome : List Re → Type 0
-AllSome ys = (z : Re) → In z ys → (isAlt z ≡ false) × (isNothing z ≡ false)
-
-alone-member : (x y : Re) → isAlt y ≡ false → MemberOf x y → x ≡ y
-alone-member x y p m = elim (subst (In x) (gathered-alone y p) (member-in m)) [ inl e ↦ e | inr n ↦ absurd n ]
-
-nested-held : (x : Re) (ys : List Re) → AllSome ys → MemberOf x (nested ys) ↔ In x ys
-unfolding nested gathered
-nested-held x [] f =
-    (λ m. elim (member-in m) [ inl e ↦ clash (ap isNothing e) (member-some m .1) | inr n ↦ n ], λ m. absurd m)
-nested-held x (y ∷ []) f =
-    let s = f y (inl refl) in (
-      λ m. inl (alone-member x y (s .0) m),
-      elim [ inl e ↦ subst (λ (v : Re). MemberOf v y) (sym e) (itself (s .0) (s .1)) | inr n ↦ absurd n ],
-    )
-nested-held x (y ∷ z ∷ zs) f =
-    let s = f y (inl refl) in
-    let ih = nested-held x (z ∷ zs) (λ v m. f v (inr m)) in (
-      λ m. elim (alt-member y (nested (z ∷ zs)) m refl) [ inl n ↦ inl (alone-member x y (s .0) n) | inr n ↦ inr (ih .0 n) ],
-      elim [
-        | inl e ↦ from-left (nested (z ∷ zs)) (subst (λ (v : Re). MemberOf v y) (sym e) (itself (s .0) (s .1)))
-        | inr n ↦ from-right y (ih .1 n)
-      ],
-    )
+  -- what is merged has the members of both sides
+  united-held : (a b : Re) → InShape a → InShape b → isNothing a ≡ false → isNothing b ≡ false → (x : Re)
+      → MemberOf j x (united j a b) ↔ (MemberOf j x a ⊎ MemberOf j x b)
+  united-held a b s t m n x =
+      let all = gathered j a ++ gathered j b in
+      let e : gathered j (united j a b) ≡ sorted all = gathered-united j o a b s t m n ∙ sym (sorted-both j o a b s t) in
+      let h = held (united j a b) (shape-united j o a b s t m n) (united-some j o a b s t m n) x in (
+        λ k. elim (in-append x (gathered j a) (gathered j b) .0 (in-sorted x all .0 (rw e at (h .0 k)))) [
+          | inl i ↦ inl (held a s m x .1 i)
+          | inr i ↦ inr (held b t n x .1 i)
+        ],
+        λ k. h .1 (rw e (in-sorted x all .1 (in-append x (gathered j a) (gathered j b) .1 (elim k [
+          | inl i ↦ inl (member-in i)
+          | inr i ↦ inr (member-in i)
+        ])))),
+      )
 
 -- what alt gives has the members of both sides
-pub alt-members-are : (a b x : Re) → MemberOf x (alt a b) ↔ (MemberOf x a ⊎ MemberOf x b)
-unfolding alt gathered
-alt-members-are a b x =
-    let all = kept (gathered (Alt a b)) in
-    let held : (z : Re) → In z (sorted all) ↔ MemberOf z (Alt a b) = λ z. (
-      λ m. member-kept z (Alt a b) .1 (in-sorted z all .0 m),
-      λ m. in-sorted z all .1 (member-kept z (Alt a b) .0 m),
-    ) in
-    let same = nested-held x (sorted all) (λ z m. member-some (held z .0 m)) in (
-      λ m. alt-member a b (held x .0 (same .0 m)) refl,
-      elim [ inl m ↦ same .1 (held x .1 (from-left b m)) | inr m ↦ same .1 (held x .1 (from-right a m)) ],
-    )
+alt-held : (a b : Re) → InShape a → InShape b → (x : Re) → MemberOf Or x (alt a b) ↔ (MemberOf Or x a ⊎ MemberOf Or x b)
+alt-held a b s t x =
+    by-sides (λ r. MemberOf Or x r ↔ (MemberOf Or x a ⊎ MemberOf Or x b)) a b s t
+    (λ e. (inr, elim [ inl m ↦ absurd (no-member a e m) | inr m ↦ m ]))
+    (λ e. (inl, elim [ inl m ↦ m | inr m ↦ absurd (no-member b e m) ]))
+    (λ m n. united-held Or tt a b s t m n x)
 
 -- so alt gives the one term in shape that has them
 pub alt-is : (a b r : Re) → InShape a → InShape b
-    → (InShape r × ((x : Re) → MemberOf x r ↔ (MemberOf x a ⊎ MemberOf x b))) ↔ (r ≡ alt a b)
+    → (InShape r × ((x : Re) → MemberOf Or x r ↔ (MemberOf Or x a ⊎ MemberOf Or x b))) ↔ (r ≡ alt a b)
 alt-is a b r s t = (
-  λ p. one-choice r (alt a b) (p .0) (shape-alt a b s t) (λ x. (λ m. alt-members-are a b x .1 (p .1 x .0 m), λ m. p .1 x .1 (alt-members-are a b x .0 m))),
-  λ e. rw e (shape-alt a b s t, alt-members-are a b),
+  λ p. one-choice Or tt r (alt a b) (p .0) (shape-alt a b s t) (λ x. (λ m. alt-held a b s t x .1 (p .1 x .0 m), λ m. p .1 x .1 (alt-held a b s t x .0 m))),
+  λ e. rw e (shape-alt a b s t, alt-held a b s t),
 )

@@ -1,12 +1,28 @@
 -- Normal form, as document 01 words it: cat, alt and star join terms in normal form, normal builds a term upward.
 -- NormalMeans proves that none of them changes what is matched.
 use mathlib.Core.Path.{_≡_}
-use mathlib.Core.Bool.{cond, _||_}
-use mathlib.Core.List.{List, [], _∷_, _++_}
+use mathlib.Core.Bool.{Bool, true, false, cond, _||_}
+use mathlib.Core.List.{List, [], _∷_, _++_, flatMap}
 use Prim.Native.Nat.{Ordering·lt, Ordering·eq, Ordering·gt}
-use Rattle.meaning.specs.Re.{Re, isNothing, isEmpty}
+use Rattle.meaning.specs.Re.{Re, upward, isNothing, isEmpty}
 use Rattle.meaning.specs.Re.Re.{Nothing, Empty, Range, Cat, Alt, Star}
 use Rattle.meaning.specs.Order.{order}
+use Rattle.meaning.specs.declared.Join.{Join}
+use Rattle.meaning.specs.declared.Join.the-variants.{Then, Or}
+
+-- two terms joined: one after the other, or as a choice
+abbrev pub joined : Join → Re → Re → Re
+joined Then a b = Cat a b
+joined Or a b = Alt a b
+
+-- whether a term is joined so: a Cat is one after the other, an Alt as a choice
+abbrev pub joins : Join → Re → Bool
+joins j Nothing = false
+joins j Empty = false
+joins j (Range lo hi) = false
+joins j (Cat a b) = elim j [ Then ↦ true | Or ↦ false ]
+joins j (Alt a b) = elim j [ Then ↦ false | Or ↦ true ]
+joins j (Star a) = false
 
 -- Cat(Cat(x,y),z) is Cat(x,Cat(y,z))
 unfoldable pub chain : Re → Re → Re
@@ -25,14 +41,10 @@ cat a b =
     (cond (isEmpty b) a
     (chain a b)))
 
--- the members of a choice: of an Alt those of both sides, of anything else itself
-unfoldable pub gathered : Re → List Re
-gathered Nothing = Nothing ∷ []
-gathered Empty = Empty ∷ []
-gathered (Range lo hi) = Range lo hi ∷ []
-gathered (Cat a b) = Cat a b ∷ []
-gathered (Alt a b) = gathered a ++ gathered b
-gathered (Star a) = Star a ∷ []
+-- the members of a term that is joined so are those of its parts, of anything else itself
+unfoldable pub gathered : Join → Re → List Re
+unfolding upward flatMap
+gathered j = upward (λ r ms. cond (joins j r) (flatMap (λ m. m) ms) (r ∷ []))
 
 -- Nothing dropped
 unfoldable pub kept : List Re → List Re
@@ -50,13 +62,13 @@ sorted [] = []
 sorted (x ∷ xs) = placed x (sorted xs)
 
 -- nested to the right; none gives Nothing, one gives itself
-unfoldable pub nested : List Re → Re
-nested [] = Nothing
-nested (x ∷ []) = x
-nested (x ∷ y ∷ ys) = Alt x (nested (y ∷ ys))
+unfoldable pub nested : Join → List Re → Re
+nested j [] = Nothing
+nested j (x ∷ []) = x
+nested j (x ∷ y ∷ ys) = joined j x (nested j (y ∷ ys))
 
 unfoldable pub alt : Re → Re → Re
-alt a b = nested (sorted (kept (gathered a ++ gathered b)))
+alt a b = nested Or (sorted (kept (gathered Or a ++ gathered Or b)))
 
 -- Star of Nothing or Empty is Empty; Star of a Star is that Star
 unfoldable pub star : Re → Re

@@ -1,18 +1,21 @@
 -- Normal form keeps meaning: cat, alt and star match what Cat, Alt and Star match, and so normal matches what the term matches.
 -- Each law is a law of languages (LangLaws), put to use at the branch that the definition takes.
 use Prim.Native.Nat.{Ordering, Ordering·lt, Ordering·eq, Ordering·gt}
-use mathlib.Core.Path.{_≡_, refl, subst}
+use mathlib.Core.Path.{_≡_, refl}
 use mathlib.Core.Bool.{true, _||_}
 use mathlib.Core.List.{List, [], _∷_, _++_}
 use mathlib.Core.Logic.{_⊎_, inl, inr}
-use Rattle.meaning.specs.Re.{Re, Text, isNothing, isEmpty}
+use Rattle.meaning.specs.Re.{Re, isNothing, isEmpty}
 use Rattle.meaning.specs.Re.Re.{Nothing, Empty, Range, Cat, Alt, Star}
 use Rattle.meaning.specs.Lang.{Lang, Same, Then, Many}
-use Rattle.meaning.specs.LangLaws.{same-sym, same-trans, then-same, many-same, none-then, then-none, empty-then, then-only, then-assoc, many-empty, many-none, many-many, either-same}
+use Rattle.meaning.specs.LangLaws.{same-sym, same-trans, then-same, many-same, none-then, then-none, empty-then, then-only, then-assoc, many-empty, many-none, many-many, None, either-same}
 use Rattle.meaning.specs.Means.{Matches}
 use Rattle.meaning.specs.Order.{order}
 use Rattle.meaning.specs.OrderLaws.{order-equal}
-use Rattle.meaning.specs.Normal.{chain, cat, gathered, kept, placed, sorted, nested, alt, star, normal}
+use Rattle.meaning.specs.declared.Join.{Join}
+use Rattle.meaning.specs.declared.Join.the-variants.{Then as Join·Then, Or}
+use Rattle.meaning.specs.JoinLaws.{by-members, gathered-alone, gathered-joined, Full, chain-one}
+use Rattle.meaning.specs.Normal.{joined, chain, cat, gathered, kept, placed, sorted, nested, alt, star, normal}
 use Rattle.number.specs.Branch.{by-cond}
 use Rattle.meaning.specs.Tests.{or-true, is-nothing, is-empty}
 
@@ -22,12 +25,9 @@ same-refl P w = (λ m. m, λ m. m)
 -- Cat
 chain-means : (a b : Re) → Same (Matches (chain a b)) (Then (Matches a) (Matches b))
 unfolding chain
-chain-means Nothing b = same-refl _
-chain-means Empty b = same-refl _
-chain-means (Range lo hi) b = same-refl _
-chain-means (Cat x y) b = same-trans (then-same (same-refl (Matches x)) (chain-means y b)) (same-sym then-assoc)
-chain-means (Alt x y) b = same-refl _
-chain-means (Star x) b = same-refl _
+chain-means a b =
+    by-members Join·Then (λ r. Same (Matches (chain r b)) (Then (Matches r) (Matches b))) (λ r e. rw (chain-one r b e) (same-refl _))
+    (λ x y _ ih. same-trans (then-same (same-refl (Matches x)) ih) (same-sym then-assoc)) a
 
 pub cat-means : (a b : Re) → Same (Matches (cat a b)) (Then (Matches a) (Matches b))
 unfolding cat
@@ -44,86 +44,103 @@ cat-means a b =
     none (inl e) = rw (is-nothing a e) (same-sym none-then)
     none (inr e) = rw (is-nothing b e) (same-sym then-none)
 
--- Alt: what some member of a list matches
-abbrev pub Some : List Re → Lang
-Some [] w = ⊥
-Some (r ∷ rs) w = Matches r w ⊎ Some rs w
+-- what an operator makes of two languages where its members may stand in any order and once, and the language that adds nothing to another
+record Gathers (j : Join) : Type 1 where
+  op : Lang → Lang → Lang
+  none : Lang
+  means : (a b : Re) → Same (Matches (joined j a b)) (op (Matches a) (Matches b))
+  same : {P P′ Q Q′ : Lang} → Same P P′ → Same Q Q′ → Same (op P Q) (op P′ Q′)
+  regrouped : (P Q R : Lang) → Same (op (op P Q) R) (op P (op Q R))
+  swapped : (P Q : Lang) → Same (op P Q) (op Q P)
+  twice : (P : Lang) → Same (op P P) P
+  alone : (P : Lang) → Same (op P none) P
 
-some-one : (r : Re) → Same (Some (r ∷ [])) (Matches r)
-some-one r w = (elim [ inl m ↦ m | inr m ↦ absurd m ], inl)
+module _ {j : Join} (l : Gathers j) where
+  -- what members match together
+  abbrev Together : List Re → Lang
+  Together [] = l .none
+  Together (r ∷ rs) = l .op (Matches r) (Together rs)
 
-some-append : (xs ys : List Re) → Same (Some (xs ++ ys)) (λ w. Some xs w ⊎ Some ys w)
-some-append [] ys w = (inr, elim [ inl m ↦ absurd m | inr m ↦ m ])
-some-append (x ∷ xs) ys w =
-    let ih = some-append xs ys w in
-    (elim [ inl m ↦ inl (inl m) | inr m ↦ regroup (ih .0 m) ], elim [ inl m ↦ first m (λ t. ih .1 (inl t)) | inr m ↦ inr (ih .1 (inr m)) ])
-  where
-    regroup : Some xs w ⊎ Some ys w → (Matches x w ⊎ Some xs w) ⊎ Some ys w
-    regroup (inl m) = inl (inr m)
-    regroup (inr m) = inr m
+  behind : (P : Lang) {Q R : Lang} → Same Q R → Same (l .op P Q) (l .op P R)
+  behind P e = l .same (same-refl P) e
 
-    first : Matches x w ⊎ Some xs w → (Some xs w → Some (xs ++ ys) w) → Matches x w ⊎ Some (xs ++ ys) w
-    first (inl m) f = inl m
-    first (inr m) f = inr (f m)
+  append-means : (xs ys : List Re) → Same (Together (xs ++ ys)) (l .op (Together xs) (Together ys))
+  append-means [] ys = same-sym (same-trans (l .swapped (l .none) (Together ys)) (l .alone (Together ys)))
+  append-means (x ∷ xs) ys =
+      same-trans (behind (Matches x) (append-means xs ys)) (same-sym (l .regrouped (Matches x) (Together xs) (Together ys)))
 
-gathered-means : (r : Re) → Same (Some (gathered r)) (Matches r)
-unfolding gathered
-gathered-means Nothing = some-one Nothing
-gathered-means Empty = some-one Empty
-gathered-means (Range lo hi) = some-one (Range lo hi)
-gathered-means (Cat a b) = some-one (Cat a b)
-gathered-means (Alt a b) = same-trans (some-append (gathered a) (gathered b)) (either-same (gathered-means a) (gathered-means b))
-gathered-means (Star a) = some-one (Star a)
+  gathered-means : (r : Re) → Same (Together (gathered j r)) (Matches r)
+  gathered-means =
+      by-members j (λ r. Same (Together (gathered j r)) (Matches r)) (λ r e. rw (gathered-alone j r e) (l .alone (Matches r)))
+      (λ a b f g.
+      rw (gathered-joined j a b)
+      (same-trans (append-means (gathered j a) (gathered j b)) (same-trans (l .same f g) (same-sym (l .means a b)))))
 
-some-tail : (x : Re) (xs ys : List Re) → Same (Some xs) (Some ys) → Same (Some (x ∷ xs)) (Some (x ∷ ys))
-some-tail x xs ys e = either-same (same-refl (Matches x)) e
+  -- of equal ones one is enough, and neighbours change places
+  once : (P R : Lang) → Same (l .op P R) (l .op P (l .op P R))
+  once P R = same-sym (same-trans (same-sym (l .regrouped P P R)) (l .same (l .twice P) (same-refl R)))
 
-kept-means : (xs : List Re) → Same (Some (kept xs)) (Some xs)
+  moved : (P Q R : Lang) → Same (l .op P (l .op Q R)) (l .op Q (l .op P R))
+  moved P Q R = same-trans (same-sym (l .regrouped P Q R)) (same-trans (l .same (l .swapped P Q) (same-refl R)) (l .regrouped Q P R))
+
+  placed-means : (x : Re) (xs : List Re) → Same (Together (placed x xs)) (Together (x ∷ xs))
+  unfolding placed
+  placed-means x [] = same-refl _
+  placed-means x (y ∷ ys) = go (order x y) refl (placed-means x ys)
+    where
+      go : (o : Ordering) → order x y ≡ o → Same (Together (placed x ys)) (Together (x ∷ ys))
+          → Same (Together (placed x (y ∷ ys))) (Together (x ∷ y ∷ ys))
+      go Ordering·lt e ih = rw (e, placed) (same-refl _)
+      go Ordering·eq e ih = rw (e, placed, order-equal x y e) (once (Matches y) (Together ys))
+      go Ordering·gt e ih = rw (e, placed) (same-trans (behind (Matches y) ih) (moved (Matches y) (Matches x) (Together ys)))
+
+  sorted-means : (xs : List Re) → Same (Together (sorted xs)) (Together xs)
+  unfolding sorted
+  sorted-means [] = same-refl _
+  sorted-means (x ∷ xs) = same-trans (placed-means x (sorted xs)) (behind (Matches x) (sorted-means xs))
+
+  nested-means : (xs : List Re) → Full xs → Same (Matches (nested j xs)) (Together xs)
+  unfolding nested
+  nested-means [] f = absurd f
+  nested-means (x ∷ []) f = same-sym (l .alone (Matches x))
+  nested-means (x ∷ y ∷ ys) f = same-trans (l .means x (nested j (y ∷ ys))) (behind (Matches x) (nested-means (y ∷ ys) tt))
+
+-- Alt
+abbrev either : Gathers Or
+either = record {
+  op = λ P Q w. P w ⊎ Q w;
+  none = None;
+  means = λ a b. same-refl _;
+  same = either-same;
+  regrouped = λ P Q R w. (
+    elim [ inl m ↦ elim m [ inl p ↦ inl p | inr q ↦ inr (inl q) ] | inr r ↦ inr (inr r) ],
+    elim [ inl p ↦ inl (inl p) | inr m ↦ elim m [ inl q ↦ inl (inr q) | inr r ↦ inr r ] ],
+  );
+  swapped = λ P Q w. (elim [ inl p ↦ inr p | inr q ↦ inl q ], elim [ inl q ↦ inr q | inr p ↦ inl p ]);
+  twice = λ P w. (elim [ inl p ↦ p | inr p ↦ p ], inl);
+  alone = λ P w. (elim [ inl p ↦ p | inr n ↦ absurd n ], inl);
+}
+
+kept-means : (xs : List Re) → Same (Together either (kept xs)) (Together either xs)
 unfolding kept
 kept-means [] = same-refl _
 kept-means (x ∷ xs) =
-    by-cond (λ (ys : List Re). Same (Some ys) (Some (x ∷ xs))) (isNothing x)
+    by-cond (λ (ys : List Re). Same (Together either ys) (Together either (x ∷ xs))) (isNothing x)
     (λ e. rw (is-nothing x e) (same-trans (kept-means xs) (λ w. (inr, elim [ inl m ↦ absurd m | inr m ↦ m ]))))
-    (λ _. some-tail x (kept xs) xs (kept-means xs))
-
-placed-means : (x : Re) (xs : List Re) → Same (Some (placed x xs)) (Some (x ∷ xs))
-unfolding placed
-placed-means x [] = same-refl _
-placed-means x (y ∷ ys) = go (order x y) refl (placed-means x ys)
-  where
-    swap : (w : Text) → Matches y w ⊎ (Matches x w ⊎ Some ys w) → Matches x w ⊎ (Matches y w ⊎ Some ys w)
-    swap w (inl m) = inr (inl m)
-    swap w (inr (inl m)) = inl m
-    swap w (inr (inr m)) = inr (inr m)
-
-    swapped : (w : Text) → Matches x w ⊎ (Matches y w ⊎ Some ys w) → Matches y w ⊎ (Matches x w ⊎ Some ys w)
-    swapped w (inl m) = inr (inl m)
-    swapped w (inr (inl m)) = inl m
-    swapped w (inr (inr m)) = inr (inr m)
-
-    go : (o : Ordering) → order x y ≡ o → Same (Some (placed x ys)) (Some (x ∷ ys)) → Same (Some (placed x (y ∷ ys))) (Some (x ∷ y ∷ ys))
-    go Ordering·lt e ih = rw (e, placed) (same-refl _)
-    go Ordering·eq e ih = rw (e, placed) (λ w. (inr, elim [ inl m ↦ inl (subst (λ (r : Re). Matches r w) (order-equal x y e) m) | inr m ↦ m ]))
-    go Ordering·gt e ih = rw (e, placed) (same-trans (some-tail y (placed x ys) (x ∷ ys) ih) (λ w. (swap w, swapped w)))
-
-sorted-means : (xs : List Re) → Same (Some (sorted xs)) (Some xs)
-unfolding sorted
-sorted-means [] = same-refl _
-sorted-means (x ∷ xs) = same-trans (placed-means x (sorted xs)) (some-tail x (sorted xs) xs (sorted-means xs))
-
-nested-means : (xs : List Re) → Same (Matches (nested xs)) (Some xs)
-unfolding nested
-nested-means [] = same-refl _
-nested-means (x ∷ []) = same-sym (some-one x)
-nested-means (x ∷ y ∷ ys) = either-same (same-refl (Matches x)) (nested-means (y ∷ ys))
+    (λ _. either-same (same-refl (Matches x)) (kept-means xs))
 
 pub alt-means : (a b : Re) → Same (Matches (alt a b)) (λ w. Matches a w ⊎ Matches b w)
-unfolding alt
+unfolding alt nested
 alt-means a b =
-    same-trans (nested-means (sorted (kept (gathered a ++ gathered b))))
-    (same-trans (sorted-means (kept (gathered a ++ gathered b)))
-    (same-trans (kept-means (gathered a ++ gathered b))
-    (same-trans (some-append (gathered a) (gathered b)) (either-same (gathered-means a) (gathered-means b)))))
+    let all = gathered Or a ++ gathered Or b in
+    same-trans (go (sorted (kept all)))
+    (same-trans (sorted-means either (kept all))
+    (same-trans (kept-means all)
+    (same-trans (append-means either (gathered Or a) (gathered Or b)) (either-same (gathered-means either a) (gathered-means either b)))))
+  where
+    go : (xs : List Re) → Same (Matches (nested Or xs)) (Together either xs)
+    go [] = same-refl _
+    go (x ∷ xs) = nested-means either (x ∷ xs) tt
 
 -- Star
 pub star-means : (a : Re) → Same (Matches (star a)) (Many (Matches a))

@@ -1,7 +1,8 @@
 -- The order of terms: Nothing, Empty, Range, Cat, Alt, Star; within a kind, parts from left to right, lo before hi.
 -- That it is a total order whose "equal" is equality is proved in OrderLaws.
 use Prim.Native.Nat.{ℕ, compare, Ordering, Ordering·lt, Ordering·eq, Ordering·gt}
-use Rattle.meaning.specs.Re.{Re}
+use mathlib.Core.List.{List, [], _∷_, map}
+use Rattle.meaning.specs.Re.{Re, bounds, parts, upward}
 use Rattle.meaning.specs.Re.Re.{Nothing, Empty, Range, Cat, Alt, Star}
 
 -- the place of its kind in the order
@@ -13,52 +14,26 @@ rank (Cat a b) = 3
 rank (Alt a b) = 4
 rank (Star a) = 5
 
--- the parts, from left to right; a kind that lacks one has 0 or Nothing for it
-abbrev pub low : Re → ℕ
-low Nothing = 0
-low Empty = 0
-low (Range lo hi) = lo
-low (Cat a b) = 0
-low (Alt a b) = 0
-low (Star a) = 0
-
-abbrev pub high : Re → ℕ
-high Nothing = 0
-high Empty = 0
-high (Range lo hi) = hi
-high (Cat a b) = 0
-high (Alt a b) = 0
-high (Star a) = 0
-
-abbrev pub left : Re → Re
-left Nothing = Nothing
-left Empty = Nothing
-left (Range lo hi) = Nothing
-left (Cat a b) = a
-left (Alt a b) = a
-left (Star a) = a
-
-abbrev pub right : Re → Re
-right Nothing = Nothing
-right Empty = Nothing
-right (Range lo hi) = Nothing
-right (Cat a b) = b
-right (Alt a b) = b
-right (Star a) = Nothing
-
 -- the first comparison decides, and where it finds no difference, the second
 abbrev pub also : Ordering → Ordering → Ordering
 also Ordering·lt o = Ordering·lt
 also Ordering·eq o = o
 also Ordering·gt o = Ordering·gt
 
+-- two lists from left to right, of the first what compares each of its items: the first difference decides; a list that ends before the other is less
+abbrev pub inTurn : {A : Type 0} → List (A → Ordering) → List A → Ordering
+inTurn [] [] = Ordering·eq
+inTurn [] (y ∷ ys) = Ordering·lt
+inTurn (c ∷ cs) [] = Ordering·gt
+inTurn (c ∷ cs) (y ∷ ys) = also (c y) (inTurn cs ys)
+
+-- x and y by their kinds, then by their bounds, then by their parts; cs are what compares with the parts of x, one by one
+abbrev pub decided : Re → List (Re → Ordering) → Re → Ordering
+decided x cs y = also (compare (rank x) (rank y)) (also (inTurn (map compare (bounds x)) (bounds y)) (inTurn cs (parts y)))
+
 unfoldable pub order : Re → Re → Ordering
-order Nothing y = compare (rank Nothing) (rank y)
-order Empty y = compare (rank Empty) (rank y)
-order (Range lo hi) y = also (compare (rank (Range lo hi)) (rank y)) (also (compare lo (low y)) (compare hi (high y)))
-order (Cat a b) y = also (compare (rank (Cat a b)) (rank y)) (also (order a (left y)) (order b (right y)))
-order (Alt a b) y = also (compare (rank (Alt a b)) (rank y)) (also (order a (left y)) (order b (right y)))
-order (Star a) y = also (compare (rank (Star a)) (rank y)) (order a (left y))
+unfolding upward
+order = upward decided
 
 -- a comparison the other way round
 abbrev pub turned : Ordering → Ordering

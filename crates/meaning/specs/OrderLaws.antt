@@ -1,12 +1,18 @@
 -- The order of terms is a total order, and its "equal" is equality.
--- A term is written out as a list of numbers, kind before parts, and the order of terms is the dictionary order of these lists.
+-- Kinds, bounds and parts fix a term, and two lists in turn are ordered as their items are, so each law holds of a term where it holds of its parts.
 use Prim.Native.Nat.{ℕ, zero, suc, _<_, compare, Ordering, Ordering·lt, Ordering·eq, Ordering·gt, compare·zero-zero, compare·zero-suc, compare·suc-zero, compare·suc-suc}
 use mathlib.Core.Path.{_≡_, refl, sym, ap, subst, _∙_}
-use mathlib.Core.List.{List, [], _∷_}
+use mathlib.Core.Bool.{cond}
+use mathlib.Core.List.{List, [], _∷_, map}
 use native.Mathlib.Omega.{arith}
-use Rattle.meaning.specs.Re.{Re}
+use lib.Dec.{eqb}
+use lib.ListN.{getD}
+use Rattle.meaning.specs.Re.{Re, bounds, parts}
 use Rattle.meaning.specs.Re.Re.{Nothing, Empty, Range, Cat, Alt, Star}
-use Rattle.meaning.specs.Order.{rank, also, order, turned}
+use Rattle.meaning.specs.PartLaws.{All, all, by-parts, upward-parts}
+use Rattle.meaning.specs.Order.{rank, also, inTurn, decided, order, turned}
+
+-- ---- numbers
 
 -- what a comparison of numbers says
 pub data Compared (m n : ℕ) : Ordering → Type 0 where
@@ -37,13 +43,49 @@ compare-is (more h) (less k) = absurd (omega arith)
 compare-is (more h) (equal k) = absurd (omega arith)
 compare-is (more h) (more k) = refl
 
+pub compare-lt : {m n : ℕ} {o : Ordering} → Compared m n o → o ≡ Ordering·lt → m < n
+compare-lt (less h) e = h
+compare-lt (equal h) e = absurd (let z : _≡_ {A = ℕ} 0 1 = cc in omega arith)
+compare-lt (more h) e = absurd (let z : _≡_ {A = ℕ} 0 1 = cc in omega arith)
+
+pub compare-eq : {m n : ℕ} {o : Ordering} → Compared m n o → o ≡ Ordering·eq → m ≡ n
+compare-eq (less h) e = absurd (let z : _≡_ {A = ℕ} 0 1 = cc in omega arith)
+compare-eq (equal h) e = h
+compare-eq (more h) e = absurd (let z : _≡_ {A = ℕ} 0 1 = cc in omega arith)
+
 compared-turned : {m n : ℕ} {o : Ordering} → Compared m n o → Compared n m (turned o)
 compared-turned (less h) = more h
 compared-turned (equal h) = equal (omega arith)
 compared-turned (more h) = less h
 
-compare-turned : (m n : ℕ) → compare n m ≡ turned (compare m n)
-compare-turned m n = compare-is (compared n m) (compared-turned (compared m n))
+-- ---- the laws of a total order, of one item against all, and that numbers have them
+
+module _ {A : Type 0} (f : A → A → Ordering) where
+  abbrev Self : A → Type 0
+  Self x = f x x ≡ Ordering·eq
+
+  abbrev Equal : A → Type 0
+  Equal x = (y : A) → f x y ≡ Ordering·eq → x ≡ y
+
+  abbrev Turns : A → Type 0
+  Turns x = (y : A) → f y x ≡ turned (f x y)
+
+  abbrev Passes : A → Type 0
+  Passes x = (y z : A) → f x y ≡ Ordering·lt → f y z ≡ Ordering·lt → f x z ≡ Ordering·lt
+
+number-self : (n : ℕ) → Self compare n
+number-self n = compare-is (compared n n) (equal refl)
+
+number-equal : (m : ℕ) → Equal compare m
+number-equal m n = compare-eq (compared m n)
+
+number-turns : (m : ℕ) → Turns compare m
+number-turns m n = compare-is (compared n m) (compared-turned (compared m n))
+
+number-passes : (l : ℕ) → Passes compare l
+number-passes l m n d e = compare-is (compared l n) (less (omega (arith, compare-lt (compared l m) d, compare-lt (compared m n) e)))
+
+-- ---- one comparison, then another
 
 also-turned : (o p : Ordering) → also (turned o) (turned p) ≡ turned (also o p)
 also-turned Ordering·lt p = refl
@@ -55,206 +97,144 @@ also-assoc Ordering·lt p q = refl
 also-assoc Ordering·eq p q = refl
 also-assoc Ordering·gt p q = refl
 
--- the dictionary order of lists of numbers
-dict : List ℕ → List ℕ → Ordering
-dict [] [] = Ordering·eq
-dict [] (n ∷ ns) = Ordering·lt
-dict (m ∷ ms) [] = Ordering·gt
-dict (m ∷ ms) (n ∷ ns) = also (compare m n) (dict ms ns)
-
-dict-turned : (ms ns : List ℕ) → dict ns ms ≡ turned (dict ms ns)
-unfolding dict
-dict-turned [] [] = refl
-dict-turned [] (n ∷ ns) = refl
-dict-turned (m ∷ ms) [] = refl
-dict-turned (m ∷ ms) (n ∷ ns) = rw (compare-turned m n, dict-turned ms ns) (also-turned (compare m n) (dict ms ns))
-
--- below, then below, is below
-also-below : {l m n : ℕ} {o p : Ordering} (q r s : Ordering) → Compared l m o → Compared m n p → (q ≡ Ordering·lt → r ≡ Ordering·lt → s ≡ Ordering·lt)
-    → also o q ≡ Ordering·lt → also p r ≡ Ordering·lt → also (compare l n) s ≡ Ordering·lt
-also-below {l} {m} {n} q r s (less h) (less k) f d e = rw (compare-is (compared l n) (less (omega arith)))
-also-below {l} {m} {n} q r s (less h) (equal k) f d e = rw (compare-is (compared l n) (less (omega arith)))
-also-below q r s (less h) (more k) f d e = absurd (let z : _≡_ {A = ℕ} 0 1 = cc in omega arith)
-also-below {l} {m} {n} q r s (equal h) (less k) f d e = rw (compare-is (compared l n) (less (omega arith)))
-also-below {l} {m} {n} q r s (equal h) (equal k) f d e = rw (compare-is (compared l n) (equal (omega arith))) (f d e)
-also-below q r s (equal h) (more k) f d e = absurd (let z : _≡_ {A = ℕ} 0 1 = cc in omega arith)
-also-below q r s (more h) k f d e = absurd (let z : _≡_ {A = ℕ} 0 1 = cc in omega arith)
-
-dict-trans : (ls ms ns : List ℕ) → dict ls ms ≡ Ordering·lt → dict ms ns ≡ Ordering·lt → dict ls ns ≡ Ordering·lt
-unfolding dict
-dict-trans [] [] ns d e = absurd (let z : _≡_ {A = ℕ} 0 1 = cc in omega arith)
-dict-trans [] (m ∷ ms) [] d e = absurd (let z : _≡_ {A = ℕ} 0 1 = cc in omega arith)
-dict-trans [] (m ∷ ms) (n ∷ ns) d e = refl
-dict-trans (l ∷ ls) [] ns d e = absurd (let z : _≡_ {A = ℕ} 0 1 = cc in omega arith)
-dict-trans (l ∷ ls) (m ∷ ms) [] d e = absurd (let z : _≡_ {A = ℕ} 0 1 = cc in omega arith)
-dict-trans (l ∷ ls) (m ∷ ms) (n ∷ ns) d e = also-below (dict ls ms) (dict ms ns) (dict ls ns) (compared l m) (compared m n) (dict-trans ls ms ns) d e
-
--- a term written out, in front of a list
-spelt : Re → List ℕ → List ℕ
-spelt Nothing k = rank Nothing ∷ k
-spelt Empty k = rank Empty ∷ k
-spelt (Range lo hi) k = rank (Range lo hi) ∷ lo ∷ hi ∷ k
-spelt (Cat a b) k = rank (Cat a b) ∷ spelt a (spelt b k)
-spelt (Alt a b) k = rank (Alt a b) ∷ spelt a (spelt b k)
-spelt (Star a) k = rank (Star a) ∷ spelt a k
-
--- two terms side by side: of one kind, with their parts side by side, or of two kinds
-data Both : Re → Re → Type 0 where
-  nothings : Both Nothing Nothing
-  empties : Both Empty Empty
-  ranges : {lo hi lo′ hi′ : ℕ} → Both (Range lo hi) (Range lo′ hi′)
-  cats : {a b a′ b′ : Re} → Both a a′ → Both b b′ → Both (Cat a b) (Cat a′ b′)
-  alts : {a b a′ b′ : Re} → Both a a′ → Both b b′ → Both (Alt a b) (Alt a′ b′)
-  stars : {a a′ : Re} → Both a a′ → Both (Star a) (Star a′)
-  differ : (x y : Re) → (rank x ≡ rank y → ⊥) → Both x y
-
-both : (x y : Re) → Both x y
-both Nothing Nothing = nothings
-both Nothing Empty = differ Nothing Empty (omega arith)
-both Nothing (Range lo′ hi′) = differ Nothing (Range lo′ hi′) (omega arith)
-both Nothing (Cat a′ b′) = differ Nothing (Cat a′ b′) (omega arith)
-both Nothing (Alt a′ b′) = differ Nothing (Alt a′ b′) (omega arith)
-both Nothing (Star a′) = differ Nothing (Star a′) (omega arith)
-both Empty Nothing = differ Empty Nothing (omega arith)
-both Empty Empty = empties
-both Empty (Range lo′ hi′) = differ Empty (Range lo′ hi′) (omega arith)
-both Empty (Cat a′ b′) = differ Empty (Cat a′ b′) (omega arith)
-both Empty (Alt a′ b′) = differ Empty (Alt a′ b′) (omega arith)
-both Empty (Star a′) = differ Empty (Star a′) (omega arith)
-both (Range lo hi) Nothing = differ (Range lo hi) Nothing (omega arith)
-both (Range lo hi) Empty = differ (Range lo hi) Empty (omega arith)
-both (Range lo hi) (Range lo′ hi′) = ranges
-both (Range lo hi) (Cat a′ b′) = differ (Range lo hi) (Cat a′ b′) (omega arith)
-both (Range lo hi) (Alt a′ b′) = differ (Range lo hi) (Alt a′ b′) (omega arith)
-both (Range lo hi) (Star a′) = differ (Range lo hi) (Star a′) (omega arith)
-both (Cat a b) Nothing = differ (Cat a b) Nothing (omega arith)
-both (Cat a b) Empty = differ (Cat a b) Empty (omega arith)
-both (Cat a b) (Range lo′ hi′) = differ (Cat a b) (Range lo′ hi′) (omega arith)
-both (Cat a b) (Cat a′ b′) = cats (both a a′) (both b b′)
-both (Cat a b) (Alt a′ b′) = differ (Cat a b) (Alt a′ b′) (omega arith)
-both (Cat a b) (Star a′) = differ (Cat a b) (Star a′) (omega arith)
-both (Alt a b) Nothing = differ (Alt a b) Nothing (omega arith)
-both (Alt a b) Empty = differ (Alt a b) Empty (omega arith)
-both (Alt a b) (Range lo′ hi′) = differ (Alt a b) (Range lo′ hi′) (omega arith)
-both (Alt a b) (Cat a′ b′) = differ (Alt a b) (Cat a′ b′) (omega arith)
-both (Alt a b) (Alt a′ b′) = alts (both a a′) (both b b′)
-both (Alt a b) (Star a′) = differ (Alt a b) (Star a′) (omega arith)
-both (Star a) Nothing = differ (Star a) Nothing (omega arith)
-both (Star a) Empty = differ (Star a) Empty (omega arith)
-both (Star a) (Range lo′ hi′) = differ (Star a) (Range lo′ hi′) (omega arith)
-both (Star a) (Cat a′ b′) = differ (Star a) (Cat a′ b′) (omega arith)
-both (Star a) (Alt a′ b′) = differ (Star a) (Alt a′ b′) (omega arith)
-both (Star a) (Star a′) = stars (both a a′)
-
--- every spelling begins with the kind, so terms of two kinds are told apart there
-rest : Re → List ℕ → List ℕ
-rest Nothing k = k
-rest Empty k = k
-rest (Range lo hi) k = lo ∷ hi ∷ k
-rest (Cat a b) k = spelt a (spelt b k)
-rest (Alt a b) k = spelt a (spelt b k)
-rest (Star a) k = spelt a k
-
-spelt-rank : (x : Re) (k : List ℕ) → spelt x k ≡ rank x ∷ rest x k
-unfolding spelt rest
-spelt-rank Nothing k = refl
-spelt-rank Empty k = refl
-spelt-rank (Range lo hi) k = refl
-spelt-rank (Cat a b) k = refl
-spelt-rank (Alt a b) k = refl
-spelt-rank (Star a) k = refl
-
-also-differ : {m n : ℕ} {o : Ordering} (p q : Ordering) → (m ≡ n → ⊥) → Compared m n o → also o p ≡ also o q
-also-differ p q h (less k) = refl
-also-differ p q h (equal k) = absurd (h k)
-also-differ p q h (more k) = refl
-
-order-differ : (x y : Re) (o : Ordering) → (rank x ≡ rank y → ⊥) → also (compare (rank x) (rank y)) o ≡ also (order x y) o
-unfolding order
-order-differ Nothing y o h = refl
-order-differ Empty y o h = refl
-order-differ (Range lo hi) y o h = also-differ o _ h (compared _ (rank y)) ∙ sym (also-assoc (compare 2 (rank y)) _ o)
-order-differ (Cat a b) y o h = also-differ o _ h (compared _ (rank y)) ∙ sym (also-assoc (compare 3 (rank y)) _ o)
-order-differ (Alt a b) y o h = also-differ o _ h (compared _ (rank y)) ∙ sym (also-assoc (compare 4 (rank y)) _ o)
-order-differ (Star a) y o h = also-differ o _ h (compared _ (rank y)) ∙ sym (also-assoc (compare 5 (rank y)) _ o)
-
-order-spelt : {x y : Re} → Both x y → (k l : List ℕ) → dict (spelt x k) (spelt y l) ≡ also (order x y) (dict k l)
-unfolding order spelt dict
-order-spelt nothings k l = refl
-order-spelt empties k l = refl
-order-spelt (ranges {lo} {hi} {lo′} {hi′}) k l = sym (also-assoc (compare lo lo′) (compare hi hi′) (dict k l))
-order-spelt (cats {a} {b} {a′} {b′} p q) k l =
-    order-spelt p (spelt b k) (spelt b′ l) ∙ ap (also (order a a′)) (order-spelt q k l) ∙ sym (also-assoc (order a a′) (order b b′) (dict k l))
-order-spelt (alts {a} {b} {a′} {b′} p q) k l =
-    order-spelt p (spelt b k) (spelt b′ l) ∙ ap (also (order a a′)) (order-spelt q k l) ∙ sym (also-assoc (order a a′) (order b b′) (dict k l))
-order-spelt (stars p) k l = order-spelt p k l
-order-spelt (differ x y h) k l =
-    rw (spelt-rank x k, spelt-rank y l)
-    (also-differ (dict (rest x k) (rest y l)) (dict k l) h (compared (rank x) (rank y)) ∙ order-differ x y (dict k l) h)
-
 pub also-eq : (o : Ordering) → also o Ordering·eq ≡ o
 also-eq Ordering·lt = refl
 also-eq Ordering·eq = refl
 also-eq Ordering·gt = refl
-
--- the order of terms is that of their spellings
-order-dict : (x y : Re) → order x y ≡ dict (spelt x []) (spelt y [])
-unfolding dict
-order-dict x y = sym (order-spelt (both x y) [] [] ∙ also-eq (order x y))
-
--- so it is turned by turning it, and it is transitive
-pub order-turned : (x y : Re) → order y x ≡ turned (order x y)
-order-turned x y = rw (order-dict y x, order-dict x y) (dict-turned (spelt x []) (spelt y []))
-
-pub order-trans : (x y z : Re) → order x y ≡ Ordering·lt → order y z ≡ Ordering·lt → order x z ≡ Ordering·lt
-order-trans x y z d e = order-dict x z ∙ dict-trans (spelt x []) (spelt y []) (spelt z []) (sym (order-dict x y) ∙ d) (sym (order-dict y z) ∙ e)
-
--- "equal" is equality
-compare-self : (n : ℕ) → compare n n ≡ Ordering·eq
-compare-self n = compare-is (compared n n) (equal refl)
-
-pub compare-eq : {m n : ℕ} {o : Ordering} → Compared m n o → o ≡ Ordering·eq → m ≡ n
-compare-eq (less h) e = absurd (let z : _≡_ {A = ℕ} 0 1 = cc in omega arith)
-compare-eq (equal h) e = h
-compare-eq (more h) e = absurd (let z : _≡_ {A = ℕ} 0 1 = cc in omega arith)
 
 also-both : (o p : Ordering) → also o p ≡ Ordering·eq → (o ≡ Ordering·eq) × (p ≡ Ordering·eq)
 also-both Ordering·lt p e = absurd (let z : _≡_ {A = ℕ} 0 1 = cc in omega arith)
 also-both Ordering·eq p e = (refl, e)
 also-both Ordering·gt p e = absurd (let z : _≡_ {A = ℕ} 0 1 = cc in omega arith)
 
-pub order-self : (x : Re) → order x x ≡ Ordering·eq
-unfolding order
-order-self Nothing = refl
-order-self Empty = refl
-order-self (Range lo hi) = rw (compare-self lo, compare-self hi)
-order-self (Cat a b) = rw (order-self a, order-self b)
-order-self (Alt a b) = rw (order-self a, order-self b)
-order-self (Star a) = order-self a
+-- below, then below, is below
+module _ {A : Type 0} (f : A → A → Ordering) (equal : (x : A) → Equal f x) where
+  also-passes : (x y z : A) (o p q : Ordering) → Passes f x → (o ≡ Ordering·lt → p ≡ Ordering·lt → q ≡ Ordering·lt)
+      → also (f x y) o ≡ Ordering·lt → also (f y z) p ≡ Ordering·lt → also (f x z) q ≡ Ordering·lt
+  also-passes x y z o p q h k = go (f x y) refl (f y z) refl
+    where
+      go : (m : Ordering) → f x y ≡ m → (n : Ordering) → f y z ≡ n → also m o ≡ Ordering·lt → also n p ≡ Ordering·lt → also (f x z) q ≡ Ordering·lt
+      go Ordering·lt c Ordering·lt b d e = rw (h y z c b)
+      go Ordering·lt c Ordering·eq b d e = rw (← equal y z b, c)
+      go Ordering·lt c Ordering·gt b d e = absurd (let z : _≡_ {A = ℕ} 0 1 = cc in omega arith)
+      go Ordering·eq c Ordering·lt b d e = rw (equal x y c, b)
+      go Ordering·eq c Ordering·eq b d e = rw (equal x y c, b) (k d e)
+      go Ordering·eq c Ordering·gt b d e = absurd (let z : _≡_ {A = ℕ} 0 1 = cc in omega arith)
+      go Ordering·gt c n b d e = absurd (let z : _≡_ {A = ℕ} 0 1 = cc in omega arith)
 
-same-both : {x y : Re} → Both x y → order x y ≡ Ordering·eq → x ≡ y
+-- ---- two lists in turn are ordered as their items are
+
+module _ {A : Type 0} (f : A → A → Ordering) where
+  abbrev rows : List A → List A → Ordering
+  rows xs ys = inTurn (map f xs) ys
+
+  rows-self : (xs : List A) → All (Self f) xs → Self rows xs
+  rows-self [] h = refl
+  rows-self (x ∷ xs) h = rw (h .0) (rows-self xs (h .1))
+
+  rows-equal : (xs : List A) → All (Equal f) xs → Equal rows xs
+  rows-equal [] h [] e = refl
+  rows-equal [] h (y ∷ ys) e = absurd (let z : _≡_ {A = ℕ} 0 1 = cc in omega arith)
+  rows-equal (x ∷ xs) h [] e = absurd (let z : _≡_ {A = ℕ} 0 1 = cc in omega arith)
+  rows-equal (x ∷ xs) h (y ∷ ys) e =
+      let b = also-both (f x y) (rows xs ys) e in
+      let p = h .0 y (b .0) in
+      let q = rows-equal xs (h .1) ys (b .1) in
+      cc
+
+  rows-turns : (xs : List A) → All (Turns f) xs → Turns rows xs
+  rows-turns [] h [] = refl
+  rows-turns [] h (y ∷ ys) = refl
+  rows-turns (x ∷ xs) h [] = refl
+  rows-turns (x ∷ xs) h (y ∷ ys) = rw (h .0 y, rows-turns xs (h .1) ys) (also-turned (f x y) (rows xs ys))
+
+  module _ (equal : (x : A) → Equal f x) where
+    rows-passes : (xs : List A) → All (Passes f) xs → Passes rows xs
+    rows-passes [] h [] zs d e = absurd (let z : _≡_ {A = ℕ} 0 1 = cc in omega arith)
+    rows-passes [] h (y ∷ ys) [] d e = absurd (let z : _≡_ {A = ℕ} 0 1 = cc in omega arith)
+    rows-passes [] h (y ∷ ys) (z ∷ zs) d e = refl
+    rows-passes (x ∷ xs) h [] zs d e = absurd (let z : _≡_ {A = ℕ} 0 1 = cc in omega arith)
+    rows-passes (x ∷ xs) h (y ∷ ys) [] d e = absurd (let z : _≡_ {A = ℕ} 0 1 = cc in omega arith)
+    rows-passes (x ∷ xs) h (y ∷ ys) (z ∷ zs) d e =
+        also-passes f equal x y z (rows xs ys) (rows ys zs) (rows xs zs) (h .0) (rows-passes xs (h .1) ys zs) d e
+
+-- ---- terms
+
+-- kind, bounds and parts fix a term
+rebuilt : ℕ → List ℕ → List Re → Re
+rebuilt k ns rs =
+    cond (eqb k 0) Nothing
+    (cond (eqb k 1) Empty
+    (cond (eqb k 2) (Range (getD ns 0 0) (getD ns 1 0))
+    (cond (eqb k 3) (Cat (getD rs 0 Nothing) (getD rs 1 Nothing))
+    (cond (eqb k 4) (Alt (getD rs 0 Nothing) (getD rs 1 Nothing))
+    (Star (getD rs 0 Nothing))))))
+
+rebuild : (x : Re) → x ≡ rebuilt (rank x) (bounds x) (parts x)
+unfolding rebuilt
+rebuild Nothing = refl
+rebuild Empty = refl
+rebuild (Range lo hi) = refl
+rebuild (Cat a b) = refl
+rebuild (Alt a b) = refl
+rebuild (Star a) = refl
+
+same-parts : (x y : Re) → rank x ≡ rank y → bounds x ≡ bounds y → parts x ≡ parts y → x ≡ y
+same-parts x y k b p = rebuild x ∙ rw (k, b, p) (sym (rebuild y))
+
+-- the order of two terms by their parts
+pub order-parts : (x y : Re) → order x y ≡ decided x (map order (parts x)) y
 unfolding order
-same-both nothings e = refl
-same-both empties e = refl
-same-both (ranges {lo} {hi} {lo′} {hi′}) e =
-    let s = also-both (compare lo lo′) (compare hi hi′) e in
-    let l = compare-eq (compared lo lo′) (s .0) in
-    let h = compare-eq (compared hi hi′) (s .1) in
-    cc
-same-both (cats {a} {b} {a′} {b′} p q) e =
-    let s = also-both (order a a′) (order b b′) e in
-    let l = same-both p (s .0) in
-    let r = same-both q (s .1) in
-    cc
-same-both (alts {a} {b} {a′} {b′} p q) e =
-    let s = also-both (order a a′) (order b b′) e in
-    let l = same-both p (s .0) in
-    let r = same-both q (s .1) in
-    cc
-same-both (stars p) e = ap Star (same-both p e)
-same-both (differ x y h) e =
-    let k = order-differ x y Ordering·eq h ∙ also-eq (order x y) ∙ e in
-    absurd (h (compare-eq (compared (rank x) (rank y)) (sym (also-eq (compare (rank x) (rank y))) ∙ k)))
+order-parts x y = ap (λ (c : Re → Ordering). c y) (upward-parts decided x)
+
+-- of one kind: leaves by their bounds, what has parts by its parts
+pub order-no-parts : (x y : Re) → rank x ≡ rank y → parts x ≡ [] → parts y ≡ [] → order x y ≡ rows compare (bounds x) (bounds y)
+order-no-parts x y k p q = order-parts x y ∙ rw (k, number-self (rank y), p, q) (also-eq (rows compare (bounds x) (bounds y)))
+
+no-bounds : (x : Re) {r : Re} {rs : List Re} → parts x ≡ r ∷ rs → bounds x ≡ []
+no-bounds Nothing e = refl
+no-bounds Empty e = refl
+no-bounds (Range lo hi) e = absurd (let z : _≡_ {A = ℕ} 0 1 = cc in omega arith)
+no-bounds (Cat a b) e = refl
+no-bounds (Alt a b) e = refl
+no-bounds (Star a) e = refl
+
+order-inner : (x y : Re) {a b : Re} {rs ss : List Re} → rank x ≡ rank y → parts x ≡ a ∷ rs → parts y ≡ b ∷ ss
+    → order x y ≡ also (order a b) (rows order rs ss)
+order-inner x y k p q = order-parts x y ∙ rw (k, number-self (rank y), no-bounds x p, no-bounds y q, p, q)
+
+pub order-one-part : (x y : Re) {a b : Re} → rank x ≡ rank y → parts x ≡ a ∷ [] → parts y ≡ b ∷ [] → order x y ≡ order a b
+order-one-part x y {a} {b} k p q = order-inner x y k p q ∙ also-eq (order a b)
+
+pub order-two-parts : (x y : Re) {a b c d : Re} → rank x ≡ rank y → parts x ≡ a ∷ b ∷ [] → parts y ≡ c ∷ d ∷ []
+    → order x y ≡ also (order a c) (order b d)
+order-two-parts x y {a} {b} {c} {d} k p q = order-inner x y k p q ∙ ap (also (order a c)) (also-eq (order b d))
+
+pub order-self : (x : Re) → order x x ≡ Ordering·eq
+order-self = by-parts (Self order) λ x h.
+    order-parts x x
+    ∙ rw (number-self (rank x), rows-self compare (bounds x) (all (Self compare) number-self (bounds x)), rows-self order (parts x) h)
 
 pub order-equal : (x y : Re) → order x y ≡ Ordering·eq → x ≡ y
-order-equal x y e = same-both (both x y) e
+order-equal = by-parts (Equal order) λ x h y e.
+    let b = also-both (compare (rank x) (rank y)) _ (sym (order-parts x y) ∙ e) in
+    let c = also-both (rows compare (bounds x) (bounds y)) (rows order (parts x) (parts y)) (b .1) in
+    same-parts x y (number-equal (rank x) (rank y) (b .0)) (rows-equal compare (bounds x) (all (Equal compare) number-equal (bounds x)) (bounds y) (c .0))
+    (rows-equal order (parts x) h (parts y) (c .1))
+
+pub order-turned : (x y : Re) → order y x ≡ turned (order x y)
+order-turned = by-parts (Turns order) λ x h y.
+    let o = compare (rank x) (rank y) in
+    let p = rows compare (bounds x) (bounds y) in
+    let q = rows order (parts x) (parts y) in
+    order-parts y x
+    ∙ rw (number-turns (rank x) (rank y), rows-turns compare (bounds x) (all (Turns compare) number-turns (bounds x)) (bounds y), rows-turns order (parts x) h (parts y))
+    (ap (also (turned o)) (also-turned p q) ∙ also-turned o (also p q)) ∙ ap turned (sym (order-parts x y))
+
+pub order-trans : (x y z : Re) → order x y ≡ Ordering·lt → order y z ≡ Ordering·lt → order x z ≡ Ordering·lt
+order-trans = by-parts (Passes order) λ x h y z d e.
+    order-parts x z
+    ∙ also-passes compare number-equal (rank x) (rank y) (rank z) _ _ _ (number-passes (rank x))
+    (also-passes (rows compare) (λ ns. rows-equal compare ns (all (Equal compare) number-equal ns)) (bounds x) (bounds y) (bounds z) _ _ _
+    (rows-passes compare number-equal (bounds x) (all (Passes compare) number-passes (bounds x)))
+    (rows-passes order order-equal (parts x) h (parts y) (parts z))) (sym (order-parts x y) ∙ d) (sym (order-parts y z) ∙ e)

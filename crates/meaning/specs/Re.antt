@@ -1,5 +1,5 @@
 -- Regular expressions, as source document 000 (1.3.3) has them, with a range of bytes for a single letter.
--- Also a text, the parts of an expression and its size as a tree, and the tests that the normal form asks.
+-- Also a text, an expression's bounds, its parts and its size as a tree, and the tests that the normal form asks.
 use Prim.Native.Nat.{ℕ, _+_}
 use mathlib.Core.Bool.{Bool, true, false}
 use mathlib.Core.List.{List, [], _∷_}
@@ -17,6 +17,15 @@ pub data Re : Type 0 where
   Alt : Re → Re → Re
   Star : Re → Re
 
+-- a range's bounds; no other kind has any
+abbrev pub bounds : Re → List ℕ
+bounds Nothing = []
+bounds Empty = []
+bounds (Range lo hi) = lo ∷ hi ∷ []
+bounds (Cat a b) = []
+bounds (Alt a b) = []
+bounds (Star a) = []
+
 -- its parts, from left to right
 abbrev pub parts : Re → List Re
 parts Nothing = []
@@ -26,6 +35,15 @@ parts (Cat a b) = a ∷ b ∷ []
 parts (Alt a b) = a ∷ b ∷ []
 parts (Star a) = a ∷ []
 
+-- worked out upward: f is told an expression and what its parts came to
+unfoldable pub upward : {A : Type 0} → (Re → List A → A) → Re → A
+upward f Nothing = f Nothing []
+upward f Empty = f Empty []
+upward f (Range lo hi) = f (Range lo hi) []
+upward f (Cat a b) = f (Cat a b) (upward f a ∷ upward f b ∷ [])
+upward f (Alt a b) = f (Alt a b) (upward f a ∷ upward f b ∷ [])
+upward f (Star a) = f (Star a) (upward f a ∷ [])
+
 -- the number of its tree's nodes
 unfoldable pub size : Re → ℕ
 size Nothing = 1
@@ -34,6 +52,11 @@ size (Range lo hi) = 1
 size (Cat a b) = 1 + size a + size b
 size (Alt a b) = 1 + size a + size b
 size (Star a) = 1 + size a
+
+-- how many nodes expressions have together
+unfoldable pub sizes : List Re → ℕ
+sizes [] = 0
+sizes (r ∷ rs) = size r + sizes rs
 
 abbrev pub isNothing : Re → Bool
 isNothing Nothing = true

@@ -7,8 +7,8 @@ use native.Mathlib.Omega.{arith}
 use Rattle.meaning.specs.Re.{Re}
 use Rattle.meaning.specs.Re.Re.{Nothing, Empty, Range, Cat, Alt, Star}
 use Rattle.meaning.specs.Order.{also, order}
-use Rattle.meaning.specs.OrderLaws.{Compared, compared, compare-is, compare-eq, order-self, order-equal}
-use Rattle.meaning.specs.OrderLaws.Compared.{less, equal, more}
+use Rattle.meaning.specs.OrderLaws.{compared, compare-is, compare-lt, compare-eq, also-eq, order-no-parts, order-one-part, order-two-parts, order-self, order-equal}
+use Rattle.meaning.specs.OrderLaws.Compared.{less, equal}
 
 -- below: the first comparison says so, or it finds no difference and the second says so
 also-less : (o p : Ordering) → (also o p ≡ Ordering·lt) ↔ ((o ≡ Ordering·lt) ⊎ ((o ≡ Ordering·eq) × (p ≡ Ordering·lt)))
@@ -21,11 +21,6 @@ also-less Ordering·gt p = (
     | inr s ↦ absurd (let d = s .0 in let z : _≡_ {A = ℕ} 0 1 = cc in omega arith)
   ],
 )
-
-compare-less : {m n : ℕ} {o : Ordering} → Compared m n o → o ≡ Ordering·lt → m < n
-compare-less (less h) e = h
-compare-less (equal h) e = absurd (let z : _≡_ {A = ℕ} 0 1 = cc in omega arith)
-compare-less (more h) e = absurd (let z : _≡_ {A = ℕ} 0 1 = cc in omega arith)
 
 -- the kinds, whatever their parts
 pub nothing-empty : order Nothing Empty ≡ Ordering·lt
@@ -50,12 +45,12 @@ alt-star a b c = refl
 
 -- the parts
 pub ranges-below : (lo hi lo′ hi′ : ℕ) → (order (Range lo hi) (Range lo′ hi′) ≡ Ordering·lt) ↔ ((lo < lo′) ⊎ ((lo ≡ lo′) × (hi < hi′)))
-unfolding order
 ranges-below lo hi lo′ hi′ =
+    rw (order-no-parts (Range lo hi) (Range lo′ hi′) refl refl refl, also-eq (compare hi hi′))
     let f = also-less (compare lo lo′) (compare hi hi′) in (
       λ e. elim (f .0 e) [
-        | inl d ↦ inl (compare-less (compared lo lo′) d)
-        | inr s ↦ inr (compare-eq (compared lo lo′) (s .0), compare-less (compared hi hi′) (s .1))
+        | inl d ↦ inl (compare-lt (compared lo lo′) d)
+        | inr s ↦ inr (compare-eq (compared lo lo′) (s .0), compare-lt (compared hi hi′) (s .1))
       ],
       elim [
         | inl h ↦ f .1 (inl (compare-is (compared lo lo′) (less h)))
@@ -75,13 +70,10 @@ parts-below a b c d =
     )
 
 pub cats-below : (a b c d : Re) → (order (Cat a b) (Cat c d) ≡ Ordering·lt) ↔ PairBelow a b c d
-unfolding order
-cats-below a b c d = parts-below a b c d
+cats-below a b c d = rw (order-two-parts (Cat a b) (Cat c d) refl refl refl) (parts-below a b c d)
 
 pub alts-below : (a b c d : Re) → (order (Alt a b) (Alt c d) ≡ Ordering·lt) ↔ PairBelow a b c d
-unfolding order
-alts-below a b c d = parts-below a b c d
+alts-below a b c d = rw (order-two-parts (Alt a b) (Alt c d) refl refl refl) (parts-below a b c d)
 
 pub stars-below : (a b : Re) → (order (Star a) (Star b) ≡ Ordering·lt) ↔ (order a b ≡ Ordering·lt)
-unfolding order
-stars-below a b = (λ e. e, λ e. e)
+stars-below a b = rw (order-one-part (Star a) (Star b) refl refl refl) (λ e. e, λ e. e)

@@ -1,29 +1,15 @@
--- What a term in normal form looks like, and the members of a choice; also the merge of two sorted choices, for the code that builds terms node by node.
+-- What a term in normal form looks like, and its members; also the merge of two terms with sorted members, for the code that builds terms node by node.
 -- ShapeLaws and FormLaws prove that exactly the normal forms have this shape, and that merging two choices in this shape is alt.
 use Prim.Native.Nat.{Ordering·lt, Ordering·eq, Ordering·gt}
 use mathlib.Core.Path.{_≡_}
 use mathlib.Core.Bool.{Bool, true, false}
-use mathlib.Core.List.{List, [], _∷_}
+use mathlib.Core.List.{List, [], _∷_, headD}
 use Rattle.meaning.specs.Re.{Re, isNothing, isEmpty}
 use Rattle.meaning.specs.Re.Re.{Nothing, Empty, Range, Cat, Alt, Star}
 use Rattle.meaning.specs.Order.{order}
-use Rattle.meaning.specs.Normal.{gathered, nested, Before}
-
-abbrev pub isCat : Re → Bool
-isCat Nothing = false
-isCat Empty = false
-isCat (Range lo hi) = false
-isCat (Cat a b) = true
-isCat (Alt a b) = false
-isCat (Star a) = false
-
-abbrev pub isAlt : Re → Bool
-isAlt Nothing = false
-isAlt Empty = false
-isAlt (Range lo hi) = false
-isAlt (Cat a b) = false
-isAlt (Alt a b) = true
-isAlt (Star a) = false
+use Rattle.meaning.specs.Normal.{joined, joins, gathered, nested, Before}
+use Rattle.meaning.specs.declared.Join.{Join}
+use Rattle.meaning.specs.declared.Join.the-variants.{Then, Or}
 
 abbrev pub isStar : Re → Bool
 isStar Nothing = false
@@ -35,18 +21,23 @@ isStar (Star a) = true
 
 -- the first of a chain is no chain itself, and neither side is Nothing or Empty
 pub record Chained (a b : Re) : Type 0 where
-  pub no-chain : isCat a ≡ false
+  pub no-chain : joins Then a ≡ false
   pub left-some : isNothing a ≡ false
   pub left-long : isEmpty a ≡ false
   pub right-some : isNothing b ≡ false
   pub right-long : isEmpty b ≡ false
 
--- the first of a choice is no choice itself, neither side is Nothing, and the first stands before the others
-pub record Chosen (a b : Re) : Type 0 where
-  pub no-choice : isAlt a ≡ false
+-- the operators whose members are sorted
+abbrev pub Sorts : Join → Type 0
+Sorts Then = ⊥
+Sorts Or = Unit
+
+-- a member and the others: it is not joined so itself, neither side is Nothing, and it stands before the others
+pub record Ordered (j : Join) (a b : Re) : Type 0 where
+  pub single : joins j a ≡ false
   pub left-some : isNothing a ≡ false
   pub right-some : isNothing b ≡ false
-  pub before : Before a (gathered b)
+  pub before : Before a (gathered j b)
 
 -- what is repeated is not Nothing, Empty or a Star
 pub record Repeated (a : Re) : Type 0 where
@@ -59,14 +50,18 @@ InShape Nothing = Unit
 InShape Empty = Unit
 InShape (Range lo hi) = Unit
 InShape (Cat a b) = InShape a × InShape b × Chained a b
-InShape (Alt a b) = InShape a × InShape b × Chosen a b
+InShape (Alt a b) = InShape a × InShape b × Ordered Or a b
 InShape (Star a) = InShape a × Repeated a
 
--- x is a member of a choice: neither a choice nor Nothing, it stands in it behind Alts alone
-pub data MemberOf (x : Re) : Re → Type 0 where
-  itself : isAlt x ≡ false → isNothing x ≡ false → MemberOf x x
-  from-left : {a : Re} (b : Re) → MemberOf x a → MemberOf x (Alt a b)
-  from-right : (a : Re) {b : Re} → MemberOf x b → MemberOf x (Alt a b)
+-- x is a member of a term: neither joined so itself nor Nothing, it stands in it behind nodes of that operator alone
+pub data MemberOf (j : Join) (x : Re) : Re → Type 0 where
+  itself : joins j x ≡ false → isNothing x ≡ false → MemberOf j x x
+  from-left : {a : Re} (b : Re) → MemberOf j x a → MemberOf j x (joined j a b)
+  from-right : (a : Re) {b : Re} → MemberOf j x b → MemberOf j x (joined j a b)
+
+-- the first member
+abbrev pub headOf : Join → Re → Re
+headOf j r = headD (gathered j r) Nothing
 
 -- two sorted lists of members, merged; of equal members one is kept
 unfoldable pub merge : List Re → List Re → List Re
@@ -74,6 +69,6 @@ merge [] ys = ys
 merge (x ∷ xs) [] = x ∷ xs
 merge (x ∷ xs) (y ∷ ys) = elim (order x y) [ Ordering·lt ↦ x ∷ merge xs (y ∷ ys) | Ordering·eq ↦ y ∷ merge xs ys | Ordering·gt ↦ y ∷ merge (x ∷ xs) ys ]
 
--- two choices, merged
-unfoldable pub united : Re → Re → Re
-united a b = nested (merge (gathered a) (gathered b))
+-- two terms with such members, merged
+unfoldable pub united : Join → Re → Re → Re
+united j a b = nested j (merge (gathered j a) (gathered j b))

@@ -4,142 +4,111 @@ use Prim.Native.Nat.{ℕ, _+_, _≤_, Ordering, Ordering·lt, Ordering·eq, Orde
 use native.Mathlib.Omega.{arith}
 use mathlib.Core.Path.{_≡_, refl, sym, ap, subst, _∙_}
 use mathlib.Core.Bool.{Bool, true, false, cond, _&&_}
-use mathlib.Core.List.{List, [], _∷_, _++_}
+use mathlib.Core.List.{List, [], _∷_, _++_, headD, tail, append-nil}
+use mathlib.Core.Logic.{_↔_}
 use lib.Dec.{leb}
 use lib.ListN.{length}
 use Rattle.number.specs.Branch.{by-cond}
 use Rattle.meaning.specs.Re.{Re, isNothing, isEmpty}
 use Rattle.meaning.specs.Re.Re.{Nothing, Empty, Range, Cat, Alt, Star}
+use Rattle.meaning.specs.PartLaws.{All}
 use Rattle.meaning.specs.Order.{order, turned}
 use Rattle.meaning.specs.OrderLaws.{order-turned, order-trans, order-equal}
-use Rattle.meaning.specs.Normal.{chain, cat, gathered, kept, placed, sorted, nested, alt, star, normal, Before}
+use Rattle.meaning.specs.declared.Join.{Join}
+use Rattle.meaning.specs.declared.Join.the-variants.{Then, Or}
+use Rattle.meaning.specs.Normal.{joined, joins, chain, cat, gathered, kept, placed, sorted, nested, alt, star, normal, Before}
+use Rattle.meaning.specs.JoinLaws.{by-members, joined-some, gathered-alone, gathered-more, Full, gathered-full, nested-more, chain-one}
 use Rattle.meaning.specs.NormalShape.{Rising, sorted-rising}
 use Rattle.meaning.specs.Derive.{nullable, deriv}
-use Rattle.meaning.specs.Shape.{isCat, isAlt, InShape, merge, united}
-use Rattle.meaning.specs.Tests.{clash, is-nothing}
+use Rattle.meaning.specs.Shape.{Sorts, InShape, Ordered, headOf, merge, united}
+use Rattle.meaning.specs.Tests.{is-nothing}
 
--- the first member of a choice: of an Alt its left side, of anything else itself
-abbrev pub headOf : Re → Re
-headOf Nothing = Nothing
-headOf Empty = Empty
-headOf (Range lo hi) = Range lo hi
-headOf (Cat a b) = Cat a b
-headOf (Alt a b) = a
-headOf (Star a) = Star a
+-- the shape of what is joined by an operator that sorts
+pub shape-joined : (j : Join) → Sorts j → (a b : Re) → InShape (joined j a b) ↔ (InShape a × InShape b × Ordered j a b)
+shape-joined Then o a b = absurd o
+shape-joined Or o a b = (λ s. s, λ s. s)
 
--- and the members after it
-abbrev others : Re → List Re
-others Nothing = []
-others Empty = []
-others (Range lo hi) = []
-others (Cat a b) = []
-others (Alt a b) = gathered b
-others (Star a) = []
+-- a member of a term in shape
+pub record Member (j : Join) (r : Re) : Type 0 where
+  pub in-shape : InShape r
+  pub single : joins j r ≡ false
+  pub some : isNothing r ≡ false
 
--- a list with something in it
-abbrev Full : List Re → Type 0
-Full [] = ⊥
-Full (x ∷ xs) = Unit
+-- the first of what is gathered
+pub gathered-head : (j : Join) (r : Re) → gathered j r ≡ headOf j r ∷ tail (gathered j r)
+unfolding headD
+gathered-head j r = go (gathered j r) (gathered-full j r)
+  where
+    go : (xs : List Re) → Full xs → xs ≡ headD xs Nothing ∷ tail xs
+    go [] f = absurd f
+    go (x ∷ xs) f = refl
 
--- a member of a choice in shape
-record Member (r : Re) : Type 0 where
-  in-shape : InShape r
-  no-choice : isAlt r ≡ false
-  some : isNothing r ≡ false
+pub head-alone : (j : Join) (r : Re) → joins j r ≡ false → headOf j r ≡ r
+unfolding headD
+head-alone j r e = rw (gathered-alone j r e)
 
-abbrev Members : List Re → Type 0
-Members [] = Unit
-Members (x ∷ xs) = Member x × Members xs
+pub head-more : (j : Join) (x xs : Re) → joins j x ≡ false → headOf j (joined j x xs) ≡ x
+unfolding headD
+head-more j x xs e = rw (gathered-more j x xs e)
 
--- what gathering finds
-pub gathered-alone : (r : Re) → isAlt r ≡ false → gathered r ≡ r ∷ []
-unfolding gathered
-gathered-alone Nothing e = refl
-gathered-alone Empty e = refl
-gathered-alone (Range lo hi) e = refl
-gathered-alone (Cat a b) e = refl
-gathered-alone (Alt a b) e = absurd (clash refl e)
-gathered-alone (Star a) e = refl
+-- what is gathered of a term in shape, and that nesting and gathering undo each other
+module _ (j : Join) (o : Sorts j) where
+  -- an induction: each member alone, and one before the others
+  by-shape : (P : Re → Type 0) → ((r : Re) → joins j r ≡ false → InShape r → P r)
+      → ((a b : Re) → InShape a → InShape b → Ordered j a b → P b → P (joined j a b)) → (r : Re) → InShape r → P r
+  by-shape P f g =
+      by-members j (λ r. InShape r → P r) f (λ a b _ ih s. let t = shape-joined j o a b .0 s in g a b (t .0) (t .1) (t .2) (ih (t .1)))
 
-pub gathered-alt : (x xs : Re) → isAlt x ≡ false → gathered (Alt x xs) ≡ x ∷ gathered xs
-unfolding gathered
-gathered-alt x xs e = ap (λ (ys : List Re). ys ++ gathered xs) (gathered-alone x e)
+  pub gathered-members : (r : Re) → InShape r → isNothing r ≡ false → All (Member j) (gathered j r)
+  gathered-members =
+      by-shape (λ r. isNothing r ≡ false → All (Member j) (gathered j r))
+      (λ r e s n. rw (gathered-alone j r e) (record { in-shape = s; single = e; some = n }, tt))
+      (λ a b s t d ih n.
+      rw (gathered-more j a b (d .single)) (record { in-shape = s; single = d .single; some = d .left-some }, ih (d .right-some)))
 
-gathered-head : (r : Re) → InShape r → gathered r ≡ headOf r ∷ others r
-unfolding gathered
-gathered-head Nothing s = refl
-gathered-head Empty s = refl
-gathered-head (Range lo hi) s = refl
-gathered-head (Cat a b) s = refl
-gathered-head (Alt a b) s = gathered-alt a b (s .2 .no-choice)
-gathered-head (Star a) s = refl
+  pub gathered-rising : (r : Re) → InShape r → Rising (gathered j r)
+  gathered-rising =
+      by-shape (λ r. Rising (gathered j r)) (λ r e s. rw (gathered-alone j r e) (tt, tt))
+      (λ a b s t d ih. rw (gathered-more j a b (d .single)) (d .before, ih))
 
-gathered-full : (r : Re) → InShape r → Full (gathered r)
-gathered-full r s = rw (gathered-head r s) tt
+  pub nested-gathered : (r : Re) → InShape r → nested j (gathered j r) ≡ r
+  unfolding nested
+  nested-gathered =
+      by-shape (λ r. nested j (gathered j r) ≡ r) (λ r e s. rw (gathered-alone j r e))
+      (λ a b s t d ih.
+      rw (gathered-more j a b (d .single)) (nested-more j a (gathered j b) (gathered-full j b) ∙ ap (joined j a) ih))
 
-gathered-members : (r : Re) → InShape r → isNothing r ≡ false → Members (gathered r)
-unfolding gathered
-gathered-members Nothing s n = absurd (clash refl n)
-gathered-members Empty s n = (record { in-shape = s; no-choice = refl; some = refl }, tt)
-gathered-members (Range lo hi) s n = (record { in-shape = s; no-choice = refl; some = refl }, tt)
-gathered-members (Cat a b) s n = (record { in-shape = s; no-choice = refl; some = refl }, tt)
-gathered-members (Alt a b) s n =
-    rw (gathered-alone a (s .2 .no-choice))
-    (record { in-shape = s .0; no-choice = s .2 .no-choice; some = s .2 .left-some }, gathered-members b (s .1) (s .2 .right-some))
-gathered-members (Star a) s n = (record { in-shape = s; no-choice = refl; some = refl }, tt)
+  nested-joined : (x r : Re) → InShape r → nested j (x ∷ gathered j r) ≡ joined j x r
+  nested-joined x r s = nested-more j x (gathered j r) (gathered-full j r) ∙ ap (joined j x) (nested-gathered r s)
 
-pub gathered-rising : (r : Re) → InShape r → Rising (gathered r)
-unfolding gathered
-gathered-rising Nothing s = (tt, tt)
-gathered-rising Empty s = (tt, tt)
-gathered-rising (Range lo hi) s = (tt, tt)
-gathered-rising (Cat a b) s = (tt, tt)
-gathered-rising (Alt a b) s = rw (gathered-alone a (s .2 .no-choice)) (s .2 .before, gathered-rising b (s .1))
-gathered-rising (Star a) s = (tt, tt)
+  gathered-nested : (xs : List Re) → Full xs → All (Member j) xs → gathered j (nested j xs) ≡ xs
+  unfolding nested
+  gathered-nested [] f m = absurd f
+  gathered-nested (x ∷ []) f m = gathered-alone j x (m .0 .single)
+  gathered-nested (x ∷ y ∷ ys) f m =
+      gathered-more j x (nested j (y ∷ ys)) (m .0 .single) ∙ ap {B = List Re} (λ r. x ∷ r) (gathered-nested (y ∷ ys) tt (m .1))
 
--- nesting undoes gathering, and gathering undoes nesting
-nested-more : (x : Re) (ys : List Re) → Full ys → nested (x ∷ ys) ≡ Alt x (nested ys)
-unfolding nested
-nested-more x [] f = absurd f
-nested-more x (y ∷ ys) f = refl
+  nested-some : (xs : List Re) → Full xs → All (Member j) xs → isNothing (nested j xs) ≡ false
+  unfolding nested
+  nested-some [] f m = absurd f
+  nested-some (x ∷ []) f m = m .0 .some
+  nested-some (x ∷ y ∷ ys) f m = joined-some j x (nested j (y ∷ ys))
 
-pub nested-gathered : (r : Re) → InShape r → nested (gathered r) ≡ r
-unfolding gathered nested
-nested-gathered Nothing s = refl
-nested-gathered Empty s = refl
-nested-gathered (Range lo hi) s = refl
-nested-gathered (Cat a b) s = refl
-nested-gathered (Alt a b) s =
-    rw (gathered-alone a (s .2 .no-choice)) (nested-more a (gathered b) (gathered-full b (s .1)) ∙ ap (Alt a) (nested-gathered b (s .1)))
-nested-gathered (Star a) s = refl
-
-gathered-nested : (xs : List Re) → Full xs → Members xs → gathered (nested xs) ≡ xs
-unfolding nested
-gathered-nested [] f m = absurd f
-gathered-nested (x ∷ []) f m = gathered-alone x (m .0 .no-choice)
-gathered-nested (x ∷ y ∷ ys) f m =
-    gathered-alt x (nested (y ∷ ys)) (m .0 .no-choice) ∙ ap {B = List Re} (λ r. x ∷ r) (gathered-nested (y ∷ ys) tt (m .1))
-
-nested-some : (xs : List Re) → Full xs → Members xs → isNothing (nested xs) ≡ false
-unfolding nested
-nested-some [] f m = absurd f
-nested-some (x ∷ []) f m = m .0 .some
-nested-some (x ∷ y ∷ ys) f m = refl
-
-nested-shape : (xs : List Re) → Members xs → Rising xs → InShape (nested xs)
-unfolding nested
-nested-shape [] m r = tt
-nested-shape (x ∷ []) m r = m .0 .in-shape
-nested-shape (x ∷ y ∷ ys) m r = (
-  m .0 .in-shape,
-  nested-shape (y ∷ ys) (m .1) (r .1),
-  record {
-    no-choice = m .0 .no-choice;
-    left-some = m .0 .some;
-    right-some = nested-some (y ∷ ys) tt (m .1);
-    before = rw (gathered-nested (y ∷ ys) tt (m .1)) (r .0);
-  },
-)
+  nested-shape : (xs : List Re) → All (Member j) xs → Rising xs → InShape (nested j xs)
+  unfolding nested
+  nested-shape [] m r = tt
+  nested-shape (x ∷ []) m r = m .0 .in-shape
+  nested-shape (x ∷ y ∷ ys) m r =
+      shape-joined j o x (nested j (y ∷ ys)) .1 (
+        m .0 .in-shape,
+        nested-shape (y ∷ ys) (m .1) (r .1),
+        record {
+          single = m .0 .single;
+          left-some = m .0 .some;
+          right-some = nested-some (y ∷ ys) tt (m .1);
+          before = rw (gathered-nested (y ∷ ys) tt (m .1)) (r .0);
+        },
+      )
 
 -- the merge's steps
 merge-end : (xs : List Re) → merge xs [] ≡ xs
@@ -165,53 +134,42 @@ unfolding merge
 merge-later [] y ys b = refl
 merge-later (x ∷ xs) y ys b = merge-more x y xs ys (order-turned y x ∙ ap turned b)
 
--- what holds of each list holds of the merge
-merge-before : (z : Re) (xs ys : List Re) → Before z xs → Before z ys → Before z (merge xs ys)
-unfolding merge
-merge-before z [] ys b d = d
-merge-before z (x ∷ xs) [] b d = b
-merge-before z (x ∷ xs) (y ∷ ys) b d = go (order x y) refl
-  where
-    go : (o : Ordering) → order x y ≡ o → Before z (merge (x ∷ xs) (y ∷ ys))
-    go Ordering·lt e = rw (e, merge) b
-    go Ordering·eq e = rw (e, merge) d
-    go Ordering·gt e = rw (e, merge) d
+-- an induction along the merge, and what holds of it where it holds of both lists
+module _ (P : List Re → List Re → List Re → Type 0) (none : (ys : List Re) → P [] ys ys) (all : (xs : List Re) → P xs [] xs)
+    (less : (x y : Re) (xs ys zs : List Re) → P xs (y ∷ ys) zs → P (x ∷ xs) (y ∷ ys) (x ∷ zs))
+    (same : (x y : Re) (xs ys zs : List Re) → P xs ys zs → P (x ∷ xs) (y ∷ ys) (y ∷ zs))
+    (more : (x y : Re) (xs ys zs : List Re) → P (x ∷ xs) ys zs → P (x ∷ xs) (y ∷ ys) (y ∷ zs)) where
+  by-merge : (xs ys : List Re) → P xs ys (merge xs ys)
+  unfolding merge
+  by-merge [] ys = none ys
+  by-merge (x ∷ xs) [] = all (x ∷ xs)
+  by-merge (x ∷ xs) (y ∷ ys) = go (order x y) refl (by-merge xs (y ∷ ys)) (by-merge xs ys) (by-merge (x ∷ xs) ys)
+    where
+      go : (o : Ordering) → order x y ≡ o → P xs (y ∷ ys) (merge xs (y ∷ ys)) → P xs ys (merge xs ys) → P (x ∷ xs) ys (merge (x ∷ xs) ys)
+          → P (x ∷ xs) (y ∷ ys) (merge (x ∷ xs) (y ∷ ys))
+      go Ordering·lt e f g h = rw (e, merge) (less x y xs ys _ f)
+      go Ordering·eq e f g h = rw (e, merge) (same x y xs ys _ g)
+      go Ordering·gt e f g h = rw (e, merge) (more x y xs ys _ h)
 
-merge-members : (xs ys : List Re) → Members xs → Members ys → Members (merge xs ys)
-unfolding merge
-merge-members [] ys m n = n
-merge-members (x ∷ xs) [] m n = m
-merge-members (x ∷ xs) (y ∷ ys) m n =
-    go (order x y) refl (merge-members xs (y ∷ ys) (m .1) n) (merge-members xs ys (m .1) (n .1)) (merge-members (x ∷ xs) ys m (n .1))
-  where
-    go : (o : Ordering) → order x y ≡ o → Members (merge xs (y ∷ ys)) → Members (merge xs ys) → Members (merge (x ∷ xs) ys)
-        → Members (merge (x ∷ xs) (y ∷ ys))
-    go Ordering·lt e f g h = rw (e, merge) (m .0, f)
-    go Ordering·eq e f g h = rw (e, merge) (n .0, g)
-    go Ordering·gt e f g h = rw (e, merge) (n .0, h)
+merge-before : (z : Re) (xs ys : List Re) → Before z xs → Before z ys → Before z (merge xs ys)
+merge-before z =
+    by-merge (λ xs ys zs. Before z xs → Before z ys → Before z zs) (λ ys b d. d) (λ xs b d. b)
+    (λ x y xs ys zs _ b d. b) (λ x y xs ys zs _ b d. d) (λ x y xs ys zs _ b d. d)
+
+merge-members : (j : Join) (xs ys : List Re) → All (Member j) xs → All (Member j) ys → All (Member j) (merge xs ys)
+merge-members j =
+    by-merge (λ xs ys zs. All (Member j) xs → All (Member j) ys → All (Member j) zs) (λ ys m n. n) (λ xs m n. m)
+    (λ x y xs ys zs f m n. (m .0, f (m .1) n)) (λ x y xs ys zs f m n. (n .0, f (m .1) (n .1))) (λ x y xs ys zs f m n. (n .0, f m (n .1)))
 
 merge-full : (xs ys : List Re) → Full ys → Full (merge xs ys)
-unfolding merge
-merge-full [] ys f = f
-merge-full (x ∷ xs) [] f = absurd f
-merge-full (x ∷ xs) (y ∷ ys) f = go (order x y) refl
-  where
-    go : (o : Ordering) → order x y ≡ o → Full (merge (x ∷ xs) (y ∷ ys))
-    go Ordering·lt e = rw (e, merge) tt
-    go Ordering·eq e = rw (e, merge) tt
-    go Ordering·gt e = rw (e, merge) tt
+merge-full =
+    by-merge (λ xs ys zs. Full ys → Full zs) (λ ys f. f) (λ xs f. absurd f)
+    (λ x y xs ys zs _ f. tt) (λ x y xs ys zs _ f. tt) (λ x y xs ys zs _ f. tt)
 
 merge-length : (xs ys : List Re) → length (merge xs ys) ≤ length xs + length ys
-unfolding merge
-merge-length [] ys = omega arith
-merge-length (x ∷ xs) [] = omega arith
-merge-length (x ∷ xs) (y ∷ ys) = go (order x y) refl (merge-length xs (y ∷ ys)) (merge-length xs ys) (merge-length (x ∷ xs) ys)
-  where
-    go : (o : Ordering) → order x y ≡ o → length (merge xs (y ∷ ys)) ≤ length xs + length (y ∷ ys) → length (merge xs ys) ≤ length xs + length ys
-        → length (merge (x ∷ xs) ys) ≤ length (x ∷ xs) + length ys → length (merge (x ∷ xs) (y ∷ ys)) ≤ length (x ∷ xs) + length (y ∷ ys)
-    go Ordering·lt e f g h = rw (e, merge) (omega arith)
-    go Ordering·eq e f g h = rw (e, merge) (omega arith)
-    go Ordering·gt e f g h = rw (e, merge) (omega arith)
+merge-length =
+    by-merge (λ xs ys zs. length zs ≤ length xs + length ys) (λ ys. omega arith) (λ xs. omega arith)
+    (λ x y xs ys zs h. omega arith) (λ x y xs ys zs h. omega arith) (λ x y xs ys zs h. omega arith)
 
 -- sorting what already rises, and two such lists one after the other
 placed-first : (x : Re) (ys : List Re) → Before x ys → placed x ys ≡ x ∷ ys
@@ -228,9 +186,6 @@ before-later : (y x : Re) (xs : List Re) → order y x ≡ Ordering·lt → Befo
 before-later y x [] e b = tt
 before-later y x (z ∷ zs) e b = order-trans y x z e b
 
-before-same : (x y : Re) (xs : List Re) → x ≡ y → Before x xs → Before y xs
-before-same x y xs e b = subst (λ (z : Re). Before z xs) e b
-
 placed-merge : (x : Re) (xs ys : List Re) → Before x xs → placed x (merge xs ys) ≡ merge (x ∷ xs) ys
 unfolding merge placed
 placed-merge x xs [] b = rw (merge-end xs) (placed-first x xs b)
@@ -238,7 +193,7 @@ placed-merge x xs (y ∷ ys) b = go (order x y) refl (placed-merge x xs ys b)
   where
     go : (o : Ordering) → order x y ≡ o → placed x (merge xs ys) ≡ merge (x ∷ xs) ys → placed x (merge xs (y ∷ ys)) ≡ merge (x ∷ xs) (y ∷ ys)
     go Ordering·lt e ih = placed-first x (merge xs (y ∷ ys)) (merge-before x xs (y ∷ ys) b e) ∙ sym (merge-less x y xs ys e)
-    go Ordering·eq e ih = rw (merge-later xs y ys (before-same x y xs (order-equal x y e) b), merge-same x y xs ys e) (rw (e, placed))
+    go Ordering·eq e ih = rw (merge-later xs y ys (subst (λ (z : Re). Before z xs) (order-equal x y e) b), merge-same x y xs ys e) (rw (e, placed))
     go Ordering·gt e ih =
         rw (merge-later xs y ys (before-later y x xs (order-turned x y ∙ ap turned e) b), merge-more x y xs ys e)
         (rw (e, placed) (ap {B = List Re} (λ r. y ∷ r) ih))
@@ -248,228 +203,195 @@ unfolding sorted merge
 sorted-merge [] ys r q = sorted-same ys q
 sorted-merge (x ∷ xs) ys r q = rw (sorted-merge xs ys (r .1) q) (placed-merge x xs ys (r .0))
 
-kept-members : (xs ys : List Re) → Members xs → Members ys → kept (xs ++ ys) ≡ xs ++ ys
+kept-append : (xs ys : List Re) → kept (xs ++ ys) ≡ kept xs ++ kept ys
 unfolding kept
-kept-members [] [] m n = refl
-kept-members [] (y ∷ ys) m n = rw (n .0 .some) (ap {B = List Re} (λ r. y ∷ r) (kept-members [] ys tt (n .1)))
-kept-members (x ∷ xs) ys m n = rw (m .0 .some) (ap {B = List Re} (λ r. x ∷ r) (kept-members xs ys (m .1) n))
+kept-append [] ys = refl
+kept-append (x ∷ xs) ys =
+    rw (kept-append xs ys)
+    (by-cond (λ zs. zs ≡ cond (isNothing x) (kept xs) (x ∷ kept xs) ++ kept ys) (isNothing x) (λ e. rw e) (λ e. rw e))
 
--- merging is alt
-pub alt-united : (a b : Re) → InShape a → InShape b → isNothing a ≡ false → isNothing b ≡ false → alt a b ≡ united a b
+kept-members : (j : Join) (xs : List Re) → All (Member j) xs → kept xs ≡ xs
+unfolding kept
+kept-members j [] m = refl
+kept-members j (x ∷ xs) m = rw (m .0 .some) (ap {B = List Re} (λ r. x ∷ r) (kept-members j xs (m .1)))
+
+-- merging two terms in shape, neither of which is Nothing: sorting what is gathered from both; in shape again, and with no more members than both have
+module _ (j : Join) (o : Sorts j) (a b : Re) (s : InShape a) (t : InShape b) where
+  pub sorted-both : sorted (gathered j a ++ gathered j b) ≡ merge (gathered j a) (gathered j b)
+  sorted-both = sorted-merge (gathered j a) (gathered j b) (gathered-rising j o a s) (gathered-rising j o b t)
+
+  module _ (m : isNothing a ≡ false) (n : isNothing b ≡ false) where
+    merged : All (Member j) (merge (gathered j a) (gathered j b))
+    merged = merge-members j (gathered j a) (gathered j b) (gathered-members j o a s m) (gathered-members j o b t n)
+
+    full : Full (merge (gathered j a) (gathered j b))
+    full = merge-full (gathered j a) (gathered j b) (gathered-full j b)
+
+    pub gathered-united : gathered j (united j a b) ≡ merge (gathered j a) (gathered j b)
+    unfolding united
+    gathered-united = gathered-nested j o (merge (gathered j a) (gathered j b)) full merged
+
+    pub united-some : isNothing (united j a b) ≡ false
+    unfolding united
+    united-some = nested-some j o (merge (gathered j a) (gathered j b)) full merged
+
+    pub shape-united : InShape (united j a b)
+    unfolding united
+    shape-united =
+        nested-shape j o (merge (gathered j a) (gathered j b)) merged (subst Rising sorted-both (sorted-rising (gathered j a ++ gathered j b)))
+
+    pub united-members : length (gathered j (united j a b)) ≤ length (gathered j a) + length (gathered j b)
+    united-members = rw gathered-united (merge-length (gathered j a) (gathered j b))
+
+-- the ways of the merge; the first members are compared
+module _ (j : Join) (o : Sorts j) where
+  single : (x xs : Re) → InShape (joined j x xs) → joins j x ≡ false
+  single x xs s = shape-joined j o x xs .0 s .2 .single
+
+  -- by the first members of both
+  less : (a b x : Re) (xs : List Re) → gathered j a ≡ x ∷ xs → order x (headOf j b) ≡ Ordering·lt → united j a b ≡ nested j (x ∷ merge xs (gathered j b))
+  unfolding united
+  less a b x xs p e = rw (p, gathered-head j b, merge-less x (headOf j b) xs (tail (gathered j b)) e)
+
+  same : (a b x y : Re) (xs ys : List Re) → gathered j a ≡ x ∷ xs → gathered j b ≡ y ∷ ys → order x y ≡ Ordering·eq
+      → united j a b ≡ nested j (y ∷ merge xs ys)
+  unfolding united
+  same a b x y xs ys p q e = rw (p, q, merge-same x y xs ys e)
+
+  more : (a b y : Re) (ys : List Re) → gathered j b ≡ y ∷ ys → order (headOf j a) y ≡ Ordering·gt → united j a b ≡ nested j (y ∷ merge (gathered j a) ys)
+  unfolding united
+  more a b y ys q e = rw (q, gathered-head j a, merge-more (headOf j a) y (tail (gathered j a)) ys e)
+
+  -- before what is left of them
+  onward : (x a b : Re) → nested j (x ∷ merge (gathered j a) (gathered j b)) ≡ joined j x (united j a b)
+  unfolding united
+  onward x a b = nested-more j x (merge (gathered j a) (gathered j b)) (merge-full (gathered j a) (gathered j b) (gathered-full j b))
+
+  -- the first term's member is the lesser: it comes first, and what is left of that term is merged with the second
+  pub united-less-one : (a b : Re) → InShape b → joins j a ≡ false → order (headOf j a) (headOf j b) ≡ Ordering·lt → united j a b ≡ joined j a b
+  unfolding merge
+  united-less-one a b t n e = less a b a [] (gathered-alone j a n) (rw (head-alone j a n) at e) ∙ nested-joined j o a b t
+
+  pub united-less-more : (x xs b : Re) → InShape (joined j x xs) → order x (headOf j b) ≡ Ordering·lt
+      → united j (joined j x xs) b ≡ joined j x (united j xs b)
+  united-less-more x xs b s e = less (joined j x xs) b x (gathered j xs) (gathered-more j x xs (single x xs s)) e ∙ onward x xs b
+
+  -- they are equal: one of them is kept, and what is left of both is merged
+  pub united-same-one : (a b : Re) → InShape b → joins j a ≡ false → order (headOf j a) (headOf j b) ≡ Ordering·eq → united j a b ≡ b
+  unfolding merge
+  united-same-one a b t n e =
+      same a b a (headOf j b) [] (tail (gathered j b)) (gathered-alone j a n) (gathered-head j b) (rw (head-alone j a n) at e)
+      ∙ ap (nested j) (sym (gathered-head j b)) ∙ nested-gathered j o b t
+
+  pub united-same-left : (x xs b : Re) → InShape (joined j x xs) → joins j b ≡ false → order x (headOf j b) ≡ Ordering·eq
+      → united j (joined j x xs) b ≡ joined j x xs
+  united-same-left x xs b s n e =
+      let f : order x b ≡ Ordering·eq = rw (head-alone j b n) at e in
+      same (joined j x xs) b x b (gathered j xs) [] (gathered-more j x xs (single x xs s)) (gathered-alone j b n) f
+      ∙ rw (merge-end (gathered j xs), ← (order-equal x b f)) (nested-joined j o x xs (shape-joined j o x xs .0 s .1))
+
+  pub united-same-more : (x xs y ys : Re) → InShape (joined j x xs) → InShape (joined j y ys) → order x y ≡ Ordering·eq
+      → united j (joined j x xs) (joined j y ys) ≡ joined j y (united j xs ys)
+  united-same-more x xs y ys s t e =
+      same (joined j x xs) (joined j y ys) x y (gathered j xs) (gathered j ys) (gathered-more j x xs (single x xs s)) (gathered-more j y ys (single y ys t)) e
+      ∙ onward y xs ys
+
+  -- the second term's member is the lesser
+  pub united-greater-one : (a b : Re) → InShape a → joins j b ≡ false → order (headOf j a) (headOf j b) ≡ Ordering·gt → united j a b ≡ joined j b a
+  united-greater-one a b s n e =
+      more a b b [] (gathered-alone j b n) (rw (head-alone j b n) at e) ∙ rw (merge-end (gathered j a)) (nested-joined j o b a s)
+
+  pub united-greater-more : (a y ys : Re) → InShape (joined j y ys) → order (headOf j a) y ≡ Ordering·gt
+      → united j a (joined j y ys) ≡ joined j y (united j a ys)
+  united-greater-more a y ys t e = more a (joined j y ys) y (gathered j ys) (gathered-more j y ys (single y ys t)) e ∙ onward y a ys
+
+  -- a term alone, put through it all
+  pub alone : (r : Re) → InShape r → nested j (sorted (kept (gathered j r))) ≡ r
+  unfolding kept sorted nested
+  alone r s = go (isNothing r) refl
+    where
+      go : (n : Bool) → isNothing r ≡ n → nested j (sorted (kept (gathered j r))) ≡ r
+      go true e = rw (is-nothing r e, gathered-alone j Nothing refl)
+      go false e =
+          rw (kept-members j (gathered j r) (gathered-members j o r s e), sorted-same (gathered j r) (gathered-rising j o r s))
+          (nested-gathered j o r s)
+
+-- a choice: merging is alt, and Nothing on a side gives the other side
+pub alt-united : (a b : Re) → InShape a → InShape b → isNothing a ≡ false → isNothing b ≡ false → alt a b ≡ united Or a b
 unfolding alt united
 alt-united a b s t m n =
     rw (
-      kept-members (gathered a) (gathered b) (gathered-members a s m) (gathered-members b t n),
-      sorted-merge (gathered a) (gathered b) (gathered-rising a s) (gathered-rising b t),
+      kept-append (gathered Or a) (gathered Or b),
+      kept-members Or (gathered Or a) (gathered-members Or tt a s m),
+      kept-members Or (gathered Or b) (gathered-members Or tt b t n),
+      sorted-both Or tt a b s t,
     )
 
-kept-end : (xs : List Re) → kept (xs ++ (Nothing ∷ [])) ≡ kept xs
-unfolding kept
-kept-end [] = refl
-kept-end (x ∷ xs) = go (isNothing x) (kept-end xs)
-  where
-    go : (n : Bool) {ys zs : List Re} → ys ≡ zs → cond n ys (x ∷ ys) ≡ cond n zs (x ∷ zs)
-    go n e = rw e
-
--- one choice alone, put through it all
-pub alone : (r : Re) → InShape r → nested (sorted (kept (gathered r))) ≡ r
-unfolding kept sorted nested gathered
-alone r s = go (isNothing r) refl
-  where
-    append-end : (xs : List Re) → Members xs → kept xs ≡ xs
-    append-end xs m = kept-members [] xs tt m
-
-    go : (n : Bool) → isNothing r ≡ n → nested (sorted (kept (gathered r))) ≡ r
-    go true e = rw (is-nothing r e)
-    go false e = rw (append-end (gathered r) (gathered-members r s e), sorted-same (gathered r) (gathered-rising r s)) (nested-gathered r s)
-
--- Nothing on a side gives the other side
 pub alt-nothing-left : (b : Re) → InShape b → alt Nothing b ≡ b
 unfolding alt gathered kept
-alt-nothing-left b s = alone b s
+alt-nothing-left b s = alone Or tt b s
 
 pub alt-nothing-right : (a : Re) → InShape a → alt a Nothing ≡ a
-unfolding alt gathered
-alt-nothing-right a s = rw (kept-end (gathered a)) (alone a s)
+unfolding alt gathered kept
+alt-nothing-right a s = rw (kept-append (gathered Or a) (Nothing ∷ []), append-nil (kept (gathered Or a))) (alone Or tt a s)
 
--- what is merged is in shape again, is not Nothing, and has no more members than both together
-pub gathered-united : (a b : Re) → InShape a → InShape b → isNothing a ≡ false → isNothing b ≡ false
-    → gathered (united a b) ≡ merge (gathered a) (gathered b)
-unfolding united
-gathered-united a b s t m n =
-    gathered-nested (merge (gathered a) (gathered b)) (merge-full (gathered a) (gathered b) (gathered-full b t))
-    (merge-members (gathered a) (gathered b) (gathered-members a s m) (gathered-members b t n))
+-- what holds of a side where the other is Nothing, and of the merge where neither is, holds of alt
+pub by-sides : (P : Re → Type 0) (a b : Re) → InShape a → InShape b → (isNothing a ≡ true → P b) → (isNothing b ≡ true → P a)
+    → (isNothing a ≡ false → isNothing b ≡ false → P (united Or a b)) → P (alt a b)
+by-sides P a b s t f g h = go (isNothing a) (isNothing b) refl refl
+  where
+    go : (m n : Bool) → isNothing a ≡ m → isNothing b ≡ n → P (alt a b)
+    go true n d e = rw (is-nothing a d, alt-nothing-left b t) (f d)
+    go false true d e = rw (is-nothing b e, alt-nothing-right a s) (g e)
+    go false false d e = rw (alt-united a b s t d e) (h d e)
 
-pub united-some : (a b : Re) → InShape a → InShape b → isNothing a ≡ false → isNothing b ≡ false → isNothing (united a b) ≡ false
-unfolding united
-united-some a b s t m n =
-    nested-some (merge (gathered a) (gathered b)) (merge-full (gathered a) (gathered b) (gathered-full b t))
-    (merge-members (gathered a) (gathered b) (gathered-members a s m) (gathered-members b t n))
-
-pub shape-united : (a b : Re) → InShape a → InShape b → isNothing a ≡ false → isNothing b ≡ false → InShape (united a b)
-unfolding united
-shape-united a b s t m n =
-    nested-shape (merge (gathered a) (gathered b))
-    (merge-members (gathered a) (gathered b) (gathered-members a s m) (gathered-members b t n))
-    (subst Rising (sorted-merge (gathered a) (gathered b) (gathered-rising a s) (gathered-rising b t)) (sorted-rising (gathered a ++ gathered b)))
-
-pub united-members : (a b : Re) → InShape a → InShape b → isNothing a ≡ false → isNothing b ≡ false
-    → length (gathered (united a b)) ≤ length (gathered a) + length (gathered b)
-united-members a b s t m n = rw (gathered-united a b s t m n) (merge-length (gathered a) (gathered b))
-
--- alt itself, Nothing or not
 pub shape-alt : (a b : Re) → InShape a → InShape b → InShape (alt a b)
-shape-alt a b s t = go (isNothing a) (isNothing b) refl refl
-  where
-    go : (m n : Bool) → isNothing a ≡ m → isNothing b ≡ n → InShape (alt a b)
-    go true n e f = rw (is-nothing a e, alt-nothing-left b t) t
-    go false true e f = rw (is-nothing b f, alt-nothing-right a s) s
-    go false false e f = rw (alt-united a b s t e f) (shape-united a b s t e f)
+shape-alt a b s t = by-sides InShape a b s t (λ _. t) (λ _. s) (shape-united Or tt a b s t)
 
-pub alt-members : (a b : Re) → InShape a → InShape b → length (gathered (alt a b)) ≤ length (gathered a) + length (gathered b)
-alt-members a b s t = go (isNothing a) (isNothing b) refl refl
-  where
-    go : (m n : Bool) → isNothing a ≡ m → isNothing b ≡ n → length (gathered (alt a b)) ≤ length (gathered a) + length (gathered b)
-    go true n e f = rw (is-nothing a e, alt-nothing-left b t) (omega arith)
-    go false true e f = rw (is-nothing b f, alt-nothing-right a s) (omega arith)
-    go false false e f = rw (alt-united a b s t e f) (united-members a b s t e f)
+pub alt-members : (a b : Re) → InShape a → InShape b → length (gathered Or (alt a b)) ≤ length (gathered Or a) + length (gathered Or b)
+alt-members a b s t =
+    by-sides (λ r. length (gathered Or r) ≤ length (gathered Or a) + length (gathered Or b)) a b s t (λ _. omega arith) (λ _. omega arith)
+    (united-members Or tt a b s t)
 
--- the ways of the merge; the first members are compared
-pub head-alone : (r : Re) → isAlt r ≡ false → headOf r ≡ r
-head-alone Nothing e = refl
-head-alone Empty e = refl
-head-alone (Range lo hi) e = refl
-head-alone (Cat a b) e = refl
-head-alone (Alt a b) e = absurd (clash refl e)
-head-alone (Star a) e = refl
-
--- the first choice's member is the lesser: it comes first, and what is left of that choice is merged with the second
-pub united-less-one : (a b : Re) → InShape b → isAlt a ≡ false → order (headOf a) (headOf b) ≡ Ordering·lt → united a b ≡ Alt a b
-unfolding united merge
-united-less-one a b t n e =
-    let f : order a (headOf b) ≡ Ordering·lt = rw (head-alone a n) at e in
-    rw (gathered-alone a n, gathered-head b t, merge-less a (headOf b) [] (others b) f, ← (gathered-head b t))
-    (nested-more a (gathered b) (gathered-full b t) ∙ ap (Alt a) (nested-gathered b t))
-
-pub united-less-more : (x xs b : Re) → InShape (Alt x xs) → InShape b → order x (headOf b) ≡ Ordering·lt
-    → united (Alt x xs) b ≡ Alt x (united xs b)
-unfolding united
-united-less-more x xs b s t e =
-    rw (gathered-alt x xs (s .2 .no-choice), gathered-head b t, merge-less x (headOf b) (gathered xs) (others b) e, ← (gathered-head b t))
-    (nested-more x (merge (gathered xs) (gathered b)) (merge-full (gathered xs) (gathered b) (gathered-full b t)))
-
--- they are equal: one of them is kept, and what is left of both is merged
-pub united-same-one : (a b : Re) → InShape b → isAlt a ≡ false → order (headOf a) (headOf b) ≡ Ordering·eq → united a b ≡ b
-unfolding united merge
-united-same-one a b t n e =
-    let f : order a (headOf b) ≡ Ordering·eq = rw (head-alone a n) at e in
-    rw (gathered-alone a n, gathered-head b t, merge-same a (headOf b) [] (others b) f, ← (gathered-head b t)) (nested-gathered b t)
-
-pub united-same-left : (x xs b : Re) → InShape (Alt x xs) → isAlt b ≡ false → order x (headOf b) ≡ Ordering·eq
-    → united (Alt x xs) b ≡ Alt x xs
-unfolding united merge
-united-same-left x xs b s n e =
-    let f : order x b ≡ Ordering·eq = rw (head-alone b n) at e in
-    rw (gathered-alt x xs (s .2 .no-choice), gathered-alone b n, merge-same x b (gathered xs) [] f, merge-end, ← (order-equal x b f))
-    (nested-more x (gathered xs) (gathered-full xs (s .1)) ∙ ap (Alt x) (nested-gathered xs (s .1)))
-
-pub united-same-more : (x xs y ys : Re) → InShape (Alt x xs) → InShape (Alt y ys) → order x y ≡ Ordering·eq
-    → united (Alt x xs) (Alt y ys) ≡ Alt y (united xs ys)
-unfolding united
-united-same-more x xs y ys s t e =
-    rw (gathered-alt x xs (s .2 .no-choice), gathered-alt y ys (t .2 .no-choice), merge-same x y (gathered xs) (gathered ys) e)
-    (nested-more y (merge (gathered xs) (gathered ys)) (merge-full (gathered xs) (gathered ys) (gathered-full ys (t .1))))
-
--- the second choice's member is the lesser
-pub united-greater-one : (a b : Re) → InShape a → isAlt b ≡ false → order (headOf a) (headOf b) ≡ Ordering·gt → united a b ≡ Alt b a
-unfolding united
-united-greater-one a b s n e =
-    let f : order (headOf a) b ≡ Ordering·gt = rw (head-alone b n) at e in
-    rw (gathered-alone b n, gathered-head a s, merge-more (headOf a) b (others a) [] f, merge-end, ← (gathered-head a s))
-    (nested-more b (gathered a) (gathered-full a s) ∙ ap (Alt b) (nested-gathered a s))
-
-pub united-greater-more : (a y ys : Re) → InShape a → InShape (Alt y ys) → order (headOf a) y ≡ Ordering·gt
-    → united a (Alt y ys) ≡ Alt y (united a ys)
-unfolding united
-united-greater-more a y ys s t e =
-    rw (gathered-alt y ys (t .2 .no-choice), gathered-head a s, merge-more (headOf a) y (others a) (gathered ys) e, ← (gathered-head a s))
-    (nested-more y (merge (gathered a) (gathered ys)) (merge-full (gathered a) (gathered ys) (gathered-full ys (t .1))))
-
--- Cat
-pub chain-cat : (a b : Re) → isCat (chain a b) ≡ true
+-- a chain: what holds of every Cat holds of it, so it is neither Nothing nor Empty, and a choice of one
+chain-is : (P : Re → Type 0) → ((x y : Re) → P (Cat x y)) → (a b : Re) → P (chain a b)
 unfolding chain
-chain-cat Nothing b = refl
-chain-cat Empty b = refl
-chain-cat (Range lo hi) b = refl
-chain-cat (Cat x y) b = refl
-chain-cat (Alt x y) b = refl
-chain-cat (Star x) b = refl
+chain-is P f a b = by-members Then (λ r. P (chain r b)) (λ r e. rw (chain-one r b e) (f r b)) (λ x y _ _. f x (chain y b)) a
 
--- a Cat is neither Nothing nor Empty, and no choice
-pub cat-some : (r : Re) → isCat r ≡ true → isNothing r ≡ false
-cat-some Nothing e = absurd (clash e refl)
-cat-some Empty e = refl
-cat-some (Range lo hi) e = refl
-cat-some (Cat a b) e = refl
-cat-some (Alt a b) e = refl
-cat-some (Star a) e = refl
+pub chain-some : (a b : Re) → isNothing (chain a b) ≡ false
+chain-some = chain-is (λ r. isNothing r ≡ false) (λ x y. refl)
 
-pub cat-long : (r : Re) → isCat r ≡ true → isEmpty r ≡ false
-cat-long Nothing e = refl
-cat-long Empty e = absurd (clash e refl)
-cat-long (Range lo hi) e = refl
-cat-long (Cat a b) e = refl
-cat-long (Alt a b) e = refl
-cat-long (Star a) e = refl
-
-pub cat-no-choice : (r : Re) → isCat r ≡ true → isAlt r ≡ false
-cat-no-choice Nothing e = refl
-cat-no-choice Empty e = refl
-cat-no-choice (Range lo hi) e = refl
-cat-no-choice (Cat a b) e = refl
-cat-no-choice (Alt a b) e = absurd (clash e refl)
-cat-no-choice (Star a) e = refl
+pub chain-long : (a b : Re) → isEmpty (chain a b) ≡ false
+chain-long = chain-is (λ r. isEmpty r ≡ false) (λ x y. refl)
 
 pub cat-chain : (a b : Re) → isNothing a ≡ false → isEmpty a ≡ false → isNothing b ≡ false → isEmpty b ≡ false → cat a b ≡ chain a b
 unfolding cat
 cat-chain a b m p n q = rw (m, n, p, q)
 
-pub chain-alone : (a b : Re) → gathered (chain a b) ≡ chain a b ∷ []
-chain-alone a b = gathered-alone (chain a b) (cat-no-choice (chain a b) (chain-cat a b))
-
 pub cat-members : (a b : Re) → isNothing a ≡ false → isEmpty a ≡ false → isNothing b ≡ false → isEmpty b ≡ false
-    → length (gathered (cat a b)) ≡ 1
-cat-members a b m p n q = rw (cat-chain a b m p n q, chain-alone a b)
+    → length (gathered Or (cat a b)) ≡ 1
+unfolding gathered
+cat-members a b m p n q = rw (cat-chain a b m p n q) (chain-is (λ r. length (gathered Or r) ≡ 1) (λ x y. refl) a b)
 
--- a chain of one that is no chain itself; a chain in shape is put together link by link
-pub chain-one : (a b : Re) → isCat a ≡ false → chain a b ≡ Cat a b
-unfolding chain
-chain-one Nothing b e = refl
-chain-one Empty b e = refl
-chain-one (Range lo hi) b e = refl
-chain-one (Cat x y) b e = absurd (clash refl e)
-chain-one (Alt x y) b e = refl
-chain-one (Star x) b e = refl
-
-pub shape-chain : (a b : Re) → InShape a → InShape b → isNothing a ≡ false → isEmpty a ≡ false → isNothing b ≡ false → isEmpty b ≡ false
+-- it is put together link by link
+shape-chain : (a b : Re) → InShape a → InShape b → isNothing a ≡ false → isEmpty a ≡ false → isNothing b ≡ false → isEmpty b ≡ false
     → InShape (chain a b)
 unfolding chain
-shape-chain Nothing b s t m p n q = absurd (clash refl m)
-shape-chain Empty b s t m p n q = absurd (clash refl p)
-shape-chain (Range lo hi) b s t m p n q = (s, t, record { no-chain = refl; left-some = m; left-long = p; right-some = n; right-long = q })
-shape-chain (Cat x y) b s t m p n q = (
-  s .0,
-  shape-chain y b (s .1) t (s .2 .right-some) (s .2 .right-long) n q,
-  record {
-    no-chain = s .2 .no-chain;
-    left-some = s .2 .left-some;
-    left-long = s .2 .left-long;
-    right-some = cat-some (chain y b) (chain-cat y b);
-    right-long = cat-long (chain y b) (chain-cat y b);
-  },
-)
-shape-chain (Alt x y) b s t m p n q = (s, t, record { no-chain = refl; left-some = m; left-long = p; right-some = n; right-long = q })
-shape-chain (Star x) b s t m p n q = (s, t, record { no-chain = refl; left-some = m; left-long = p; right-some = n; right-long = q })
+shape-chain a b s t m p n q =
+    by-members Then (λ r. InShape r → isNothing r ≡ false → isEmpty r ≡ false → InShape (chain r b))
+    (λ r e u v w. rw (chain-one r b e) (u, t, record { no-chain = e; left-some = v; left-long = w; right-some = n; right-long = q }))
+    (λ x y _ ih u v w. (
+      u .0,
+      ih (u .1) (u .2 .right-some) (u .2 .right-long),
+      record {
+        no-chain = u .2 .no-chain;
+        left-some = u .2 .left-some;
+        left-long = u .2 .left-long;
+        right-some = chain-some y b;
+        right-long = chain-long y b;
+      },
+    ))
+    a s m p
 
 pub shape-cat : (a b : Re) → InShape a → InShape b → InShape (cat a b)
 unfolding cat

@@ -4,16 +4,16 @@ use Prim.Native.Nat.{ℕ, _+_}
 use mathlib.Core.Path.{_≡_}
 use mathlib.Core.Bool.{cond}
 use mathlib.Core.List.{List}
+use Rattle.meaning.specs.declared.Join.the-variants.{Then}
 use Rattle.meaning.specs.Normal.{chain, cat, star}
 use Rattle.meaning.specs.Limited.{short, fit}
-use Rattle.meaning.specs.SizeLaws.{spine}
 use Rattle.term.specs.declared.Term.{Term as Node}
 use Rattle.term.specs.Cells.{grow, term}
 use Rattle.term.specs.Area.{pending, Wasted, Makes}
 use Rattle.normal.specs.declared.Built.{Built}
 use Rattle.normal.specs.declared.Made.{Made}
 use Rattle.normal.specs.declared.Made.the-variants.{Term, Long}
-use Rattle.normal.specs.Asked.{catCells}
+use Rattle.normal.specs.Asked.{members, catCells}
 use Rattle.normal.specs.Made.{MadeBy}
 
 -- a node is stored
@@ -21,7 +21,7 @@ abbrev pub Stores : List ℕ → ℕ → Node → List ℕ → Built → Type 0
 Stores s top u s′ r = Makes s top s′ (r .root) (r .top) (grow u (term s)) 1
 
 abbrev pub Chains : List ℕ → ℕ → ℕ → ℕ → List ℕ → Built → Type 0
-Chains s top a b s′ r = Makes s top s′ (r .root) (r .top) (chain (term s a) (term s b)) (spine (term s a) + 1)
+Chains s top a b s′ r = Makes s top s′ (r .root) (r .top) (chain (term s a) (term s b)) (members Then (term s a))
 
 abbrev pub Cats : List ℕ → ℕ → ℕ → ℕ → List ℕ → Built → Type 0
 Cats s top a b s′ r = Makes s top s′ (r .root) (r .top) (cat (term s a) (term s b)) (catCells (term s a) (term s b))

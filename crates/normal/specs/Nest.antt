@@ -2,30 +2,33 @@
 -- A list is of numbers of terms below the top, one a cell; the nodes take its place.
 use Prim.Native.Nat.{ℕ, zero, suc, _+_, _-_, _<_, _≤_}
 use mathlib.Core.Path.{_≡_}
+use mathlib.Core.Bool.{Bool}
 use mathlib.Core.List.{List}
+use lib.Dec.{eqb}
 use lib.ListN.{length, getD}
+use Rattle.meaning.specs.declared.Join.{Join}
+use Rattle.meaning.specs.declared.Join.the-variants.{Then, Or}
 use Rattle.meaning.specs.Re.{Re}
+use Rattle.meaning.specs.Normal.{joined}
 use Rattle.term.specs.declared.Term.{Term}
 use Rattle.term.specs.declared.Term.the-variants.{Cat, Alt}
 use Rattle.term.specs.Cells.{term, Sound}
+use Rattle.term.specs.Nodes.{kindOf}
 use Rattle.term.specs.Area.{Wasted, Makes}
 use Rattle.normal.specs.declared.Built.{Built}
-use Rattle.normal.specs.declared.Join.{Join}
-use Rattle.normal.specs.declared.Join.the-variants.{Then, Or}
 
--- a member and the rest, as a node and as a term
+-- the node that joins a member to the rest, and whether a node is one
 abbrev pub joinNode : Join → ℕ → ℕ → Term
 joinNode Then a b = Cat a b
 joinNode Or a b = Alt a b
 
-abbrev pub joinTerm : Join → Re → Re → Re
-joinTerm Then a b = Re.Cat a b
-joinTerm Or a b = Re.Alt a b
+abbrev pub joinsNode : Join → Term → Bool
+joinsNode k u = eqb (kindOf u) (kindOf (joinNode k 0 0))
 
 -- the terms of s whose numbers stand in the first n cells of l from top on, each joined to all after it, and the last to r
 unfoldable pub nested : Join → List ℕ → List ℕ → ℕ → ℕ → Re → Re
 nested k s l top zero r = r
-nested k s l top (suc n) r = nested k s l top n (joinTerm k (term s (getD l (top + n) 0)) r)
+nested k s l top (suc n) r = nested k s l top n (joined k (term s (getD l (top + n) 0)) r)
 
 -- ---- listing
 

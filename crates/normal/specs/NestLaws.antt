@@ -8,16 +8,17 @@ use mathlib.Core.List.{List}
 use lib.ListN.{length, getD, set, length-set}
 use lib.Seq.{getD-set-same, getD-set-other}
 use borrow.Author.Count.{below-more}
+use Rattle.meaning.specs.declared.Join.{Join}
+use Rattle.meaning.specs.declared.Join.the-variants.{Then, Or}
 use Rattle.meaning.specs.Re.{Re}
+use Rattle.meaning.specs.Normal.{joined}
 use Rattle.term.specs.declared.Term.{Term}
 use Rattle.term.specs.Cells.{grow, term, Below, Sound}
 use Rattle.term.specs.Area.{Makes}
 use Rattle.term.specs.Nodes.{Pushed}
 use Rattle.term.specs.CellLaws.{frame, sound-same}
 use Rattle.normal.specs.declared.Built.{Built}
-use Rattle.normal.specs.declared.Join.{Join}
-use Rattle.normal.specs.declared.Join.the-variants.{Then, Or}
-use Rattle.normal.specs.Nest.{joinNode, joinTerm, nested, Listing, Lists, Turned, Turning, Nests, Nesting}
+use Rattle.normal.specs.Nest.{joinNode, nested, Listing, Lists, Turned, Turning, Nests, Nesting}
 
 -- ---- joining
 
@@ -25,7 +26,7 @@ join-below : (k : Join) (x y i : ℕ) → x < i → y < i → Below (joinNode k 
 join-below Then x y i g h = (g, h)
 join-below Or x y i g h = (g, h)
 
-join-grow : (k : Join) (x y : ℕ) (f : ℕ → Re) → grow (joinNode k x y) f ≡ joinTerm k (f x) (f y)
+join-grow : (k : Join) (x y : ℕ) (f : ℕ → Re) → grow (joinNode k x y) f ≡ joined k (f x) (f y)
 join-grow Then x y f = refl
 join-grow Or x y f = refl
 
@@ -36,10 +37,10 @@ unfolding nested
 nested-same k s s′ l l′ top zero r same = refl
 nested-same k s s′ l l′ top (suc n) r same =
     rw (same (top + n) (omega arith) (omega arith))
-    (nested-same k s s′ l l′ top n (joinTerm k (term s (getD l (top + n) 0)) r) (λ j g h. same j g (omega arith)))
+    (nested-same k s s′ l l′ top n (joined k (term s (getD l (top + n) 0)) r) (λ j g h. same j g (omega arith)))
 
 nested-more : (k : Join) (s l : List ℕ) (top m n at : ℕ) (r : Re) → m ≡ suc n → at ≡ top + n
-    → nested k s l top m r ≡ nested k s l top n (joinTerm k (term s (getD l at 0)) r)
+    → nested k s l top m r ≡ nested k s l top n (joined k (term s (getD l at 0)) r)
 unfolding nested
 nested-more k s l top m n at r e d = rw (e, d, nested)
 
@@ -148,9 +149,9 @@ module _ {s : List ℕ} {top end tail : ℕ} (c : Lists s top end tail) where
             let x = getD l at 0 in
             let here : x ≡ getD s (top + end - 1 - at) 0 = t .turned at (omega arith) h in
             let old : term l x ≡ term s x = frame s l top x (c .sound) (t .wasted .kept-below) first-low in
-            let made : term l′ at ≡ joinTerm k (term s (getD s (top + end - 1 - at) 0)) (term l root) =
+            let made : term l′ at ≡ joined k (term s (getD s (top + end - 1 - at) 0)) (term l root) =
             p .makes .is ∙ ap (λ (n : Term). grow n (term l)) e ∙ join-grow k x root (term l)
-            ∙ ap (λ (v : Re). joinTerm k v (term l root)) (old ∙ ap (term s) here) in
+            ∙ ap (λ (v : Re). joined k v (term l root)) (old ∙ ap (term s) here) in
             record {
               up = omega arith;
               inside = omega arith;
@@ -199,7 +200,7 @@ listing-first k s top v =
 
 module _ {k : Join} {s : List ℕ} {top : ℕ} {l : List ℕ} {end : ℕ} {v w : Re} (t : Listing k s top l end v w) where
   -- a member more
-  pub listing-next : (x : ℕ) (r : Re) → x < top → end < length s → w ≡ joinTerm k (term s x) r → Listing k s top (set l end x) (end + 1) v r
+  pub listing-next : (x : ℕ) (r : Re) → x < top → end < length s → w ≡ joined k (term s x) r → Listing k s top (set l end x) (end + 1) v r
   listing-next x r low room e =
       let up = t .up in
       let l′ = set l end x in
@@ -217,7 +218,7 @@ module _ {k : Join} {s : List ℕ} {top : ℕ} {l : List ℕ} {end : ℕ} {v w :
         };
         is = nested-more k s l′ top (end + 1 - top) (end - top) end r (omega arith) (omega arith)
             ∙ nested-same k s s l l′ top (end - top) _ (λ j g h. ap (term s) (other j (λ z. omega arith)))
-            ∙ ap (nested k s l top (end - top)) (ap (λ (i : ℕ). joinTerm k (term s i) r) there ∙ sym e) ∙ t .is;
+            ∙ ap (nested k s l top (end - top)) (ap (λ (i : ℕ). joined k (term s i) r) there ∙ sym e) ∙ t .is;
       }
 
   -- no member more: what is left stands in cell tail

@@ -7,8 +7,11 @@ ghost use Rattle.term.specs.Cells.{Below, Sound};
 ghost use Rattle.term.specs.Counts.{Countable};
 ghost use Rattle.normal.specs.Asked.{Links, CountedLinks};
 ghost use Rattle.normal.specs.Builds.{Stores, Chains, Cats, Stars, Fitted, CatFits};
-ghost use Rattle.normal.specs.Nest.{joinNode, Turned, Lists, Nests};
+ghost use Rattle.normal.specs.Nest.{joinNode, joinsNode, Turned, Lists, Nests};
+use meaning::Join;
+use term::ALT;
 use term::CAT;
+use term::STAR;
 use term::Term;
 
 // The cell of a term that was built, with the next free cell.
@@ -37,18 +40,23 @@ pub fn store(cells: &mut [u64], top: usize, node: Term) -> Built
     }
 }
 
-// How members are joined: one after another, or as a choice.
-pub enum Join {
-    Then,
-    Or,
-}
-
+// The node that joins a member to the rest by an operator, and whether a node is one.
 fn joined(join: Join, first: usize, rest: usize) -> Term
     ensures { λ r. ⌜ r ≡ joinNode join first rest ⌝ }
 {
     match join {
         Join::Then => Term::Cat(first, rest),
         Join::Or => Term::Alt(first, rest),
+    }
+}
+
+pub fn joins(node: Term, join: Join) -> bool
+    ensures { λ r. ⌜ r ≡ joinsNode join node ⌝ }
+{
+    let kind = term::kind_of(node);
+    match join {
+        Join::Then => kind == CAT,
+        Join::Or => kind == ALT,
     }
 }
 
@@ -96,13 +104,14 @@ fn chain(cells: &mut [u64], top: usize, a: usize, b: usize) -> Built
     let mut end = top;
     loop {
         let node = term::node_at(cells, last);
-        if term::kind_of(node) != CAT {
-            cells[end] = last as u64;
-            return nest(cells, top, end + 1, b, Join::Then);
+        if joins(node, Join::Then) {
+            cells[end] = term::first_of(node) as u64;
+            end += 1;
+            last = term::second_of(node);
+            continue;
         }
-        cells[end] = term::first_of(node) as u64;
-        end += 1;
-        last = term::second_of(node);
+        cells[end] = last as u64;
+        return nest(cells, top, end + 1, b, Join::Then);
     }
 }
 
@@ -136,14 +145,16 @@ pub fn star(cells: &mut [u64], top: usize, a: usize) -> Built
     ensures { λ r. ⌜ Stars (now (cells .entry)) top a (now (cells .exit)) r ⌝ }
 {
     let node = term::node_at(cells, a);
-    match node {
-        Term::Nothing => store(cells, top, Term::Empty),
-        Term::Empty => Built { root: a, top },
-        Term::Range(_, _) => store(cells, top, Term::Star(a)),
-        Term::Cat(_, _) => store(cells, top, Term::Star(a)),
-        Term::Alt(_, _) => store(cells, top, Term::Star(a)),
-        Term::Star(_) => Built { root: a, top },
+    if term::is_nothing(node) {
+        return store(cells, top, Term::Empty);
     }
+    if term::is_empty(node) {
+        return Built { root: a, top };
+    }
+    if term::kind_of(node) == STAR {
+        return Built { root: a, top };
+    }
+    store(cells, top, Term::Star(a))
 }
 
 // What was built, with the limit: a result of too many nodes is Long.

@@ -193,7 +193,7 @@ padded-refused s at k p = go p
 -- ---- fields
 
 -- a number that stands somewhere is read there
-number-read : (s : List ℕ) (at n next : ℕ) → NumberAt s at n next → readNumber s at ≡ got n next
+pub number-read : (s : List ℕ) (at n next : ℕ) → NumberAt s at n next → readNumber s at ≡ got n next
 number-read s at n next a = rw (a .after) (read-written n s at (drop next s) (a .small) (a .stands))
 
 as-field : (s : List ℕ) (lo hi at : ℕ) {q r : Refusal} → FieldFault s lo hi at q → _≡_ {A = Answer ℕ} (refused q) (refused r)
@@ -245,7 +245,7 @@ pub data OfNumber (at : ℕ) : Refusal → Type 0 where
   padded : OfNumber at (Padded at)
   outside : OfNumber at (Range at)
 
-of-fault : {s : List ℕ} {at k : ℕ} {r : Refusal} → NumberFault s at r k → OfNumber at r
+pub of-fault : {s : List ℕ} {at k : ℕ} {r : Refusal} → NumberFault s at r k → OfNumber at r
 of-fault (ends k h all i) = short
 of-fault (goesOn all) = runs-on
 of-fault (nought k h i all j e) = padded

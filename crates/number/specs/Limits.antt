@@ -12,14 +12,17 @@ twoGroups = group * group
 abbrev pub threeGroups : ℕ
 threeGroups = group * group * group
 
--- the only version of a book and of a sheet
-abbrev pub version : ℕ
-version = 1
+-- versions: of books the first and the last, and the only one of sheets
+abbrev pub firstVersion : ℕ
+firstVersion = 1
 
 abbrev pub lastVersion : ℕ
-lastVersion = version
+lastVersion = 1
 
--- rule books: rules of a book, the largest kind, nodes of all rules together, the last node code of a version
+abbrev pub sheetVersion : ℕ
+sheetVersion = 1
+
+-- rule books: rules of a book, the largest kind, nodes of all rules together
 abbrev pub rules : ℕ
 rules = 32
 
@@ -29,8 +32,27 @@ kinds = 16383
 abbrev pub nodes : ℕ
 nodes = 512
 
-abbrev pub lastCode : ℕ → ℕ
-lastCode v = 6
+-- the codes of nodes
+abbrev pub codeNothing : ℕ
+codeNothing = 0
+
+abbrev pub codeEmpty : ℕ
+codeEmpty = 1
+
+abbrev pub codeRange : ℕ
+codeRange = 2
+
+abbrev pub codeCat : ℕ
+codeCat = 3
+
+abbrev pub codeAlt : ℕ
+codeAlt = 4
+
+abbrev pub codeStar : ℕ
+codeStar = 5
+
+abbrev pub codeEither : ℕ
+codeEither = 6
 
 -- bytes: how many there are, and the largest
 abbrev pub bytes : ℕ

@@ -6,17 +6,34 @@ pub const GROUP: usize = 128;
 
 pub const TWO_GROUPS: usize = GROUP * GROUP;
 
-// The only version of a book and of a sheet.
-pub const VERSION: usize = 1;
+// Versions: of books the first and the last, and the only one of sheets.
+pub const FIRST_VERSION: usize = 1;
 
-// Rule books: rules of a book, the largest kind, nodes of all rules together, the last node code.
+pub const LAST_VERSION: usize = 1;
+
+pub const SHEET_VERSION: usize = 1;
+
+// Rule books: rules of a book, the largest kind, nodes of all rules together.
 pub const RULES: usize = 32;
 
 pub const KINDS: usize = 16383;
 
 pub const NODES: usize = 512;
 
-pub const LAST_CODE: usize = 6;
+// The codes of nodes.
+pub const CODE_NOTHING: usize = 0;
+
+pub const CODE_EMPTY: usize = 1;
+
+pub const CODE_RANGE: usize = 2;
+
+pub const CODE_CAT: usize = 3;
+
+pub const CODE_ALT: usize = 4;
+
+pub const CODE_STAR: usize = 5;
+
+pub const CODE_EITHER: usize = 6;
 
 // Bytes: how many there are, and the largest.
 pub const BYTES: usize = 256;

@@ -22,13 +22,13 @@ use Rattle.walk.specs.StepLaws.Moved.{again, fresh}
 use Rattle.vector.specs.Layout.{items, sheetsAt}
 use Rattle.vector.specs.Vectors.{vectorOf}
 use Rattle.vector.specs.Memory.{numbersAt, itemOf, itemsOf, heldOf}
-use Rattle.vector.specs.Promises.{Within, Reads}
+use Rattle.vector.specs.Promises.{Within, ReadsShort}
 use Rattle.vector.specs.MemoryLaws.{items-length, items-at}
 use Rattle.steps.specs.declared.Stepped.{Stepped}
 use Rattle.steps.specs.declared.Stepped.the-variants.{Reached, Stopped}
 use Rattle.steps.specs.Step.{wayOf, Ready, Went, Comes, Steps, firstItem}
 use Rattle.steps.specs.WayLaws.{step-way}
-use Rattle.steps.specs.CallLaws.{kept-reads}
+use Rattle.steps.specs.CallLaws.{kept-short}
 use Rattle.steps.specs.RowLaws.{Along, along-first, along-end, along-stop, item-after, run-on, Rowed, rowed-first, rowed-end, rowed-stop, rowed-next}
 use Rattle.verdict.specs.Compare.{stateOf, numberTold}
 use Rattle.verdict.specs.NumberLaws.{told-after}
@@ -115,7 +115,7 @@ pub record Turn (s₀ : List ℕ) (n top₀ count₀ i : ℕ) (targets : List �
 -- a step from byte c came to an item: what the code asks then, and the turn that follows
 pub record Onward (s₀ : List ℕ) (n top₀ count₀ i : ℕ) (targets : List ℕ) (place base : ℕ) (s : List ℕ) (top count c : ℕ) : Type 0 where
   pub within : Within s i
-  pub reads-on : {v : List ℕ} → v ≡ numbersAt s i → Reads s n v
+  pub reads-on : {v : List ℕ} → v ≡ numbersAt s i → ReadsShort s n v
   -- the run goes on to the next edge at most, which lies in the row
   pub some : {v : List ℕ} {edge : ℕ} → v ≡ numbersAt s i → edge ≡ nextEdgeAll c (vectorOf s n v) → base + c < base + edge
   pub fits : {v : List ℕ} {edge : ℕ} → v ≡ numbersAt s i → edge ≡ nextEdgeAll c (vectorOf s n v) → base + edge ≤ length targets
@@ -231,7 +231,7 @@ module _ (s₀ : List ℕ) (n top₀ count₀ i : ℕ) (targets : List ℕ) (pla
         pub turn-on : Onward s₀ n top₀ count₀ i targets place base s′ top′ count′ c
         turn-on = record {
           within = record { long = went .kept .long; few = omega (arith, still, went .few) };
-          reads-on = λ q. rw q (kept-reads i (went .kept) still);
+          reads-on = λ q. rw q (kept-short i (went .kept) still);
           some = λ {v} o q. omega (arith, q, edge-all-after c (vectorOf s′ n v) (omega arith));
           fits = λ {v} o q.
               omega (arith, q, edge-all-within c (vectorOf s′ n v), turn .based, turn .beside .sheets i (turn .inside));

@@ -16,8 +16,8 @@ use Rattle.vector.specs.Vectors.{vectorOf}
 use Rattle.vector.specs.Memory.{heldOf}
 use Rattle.steps.specs.declared.Stepped.{Stepped}
 use Rattle.steps.specs.declared.Stepped.the-variants.{Reached, Stopped}
-use Rattle.steps.specs.Step.{First, firstItem, Begins, Steps, Comes, Went}
-use Rattle.start.specs.Start.{rulesIn, First as Started}
+use Rattle.steps.specs.Step.{firstItem, Begins, Steps, Comes, Went}
+use Rattle.start.specs.Start.{rulesIn}
 use Rattle.pairs.specs.Promises.{byTargets, HasRow, Beside, Ends}
 use Rattle.pairs.specs.BesideLaws.{beside-first}
 
@@ -29,11 +29,8 @@ walk-by targets rs v e = ap (λ (u : Vector). onFrom (byTargets targets) (beginB
 pub walk-long : (targets file : List ℕ) → normalised (rulesIn file) ≡ TooLong → walkFrom (byTargets targets) (rulesIn file) ≡ halted (Long 0)
 walk-long targets file e = walk-by targets (rulesIn file) TooLong e
 
--- vector 0 is there to be held
-pub walk-first : {file : List ℕ} {n : ℕ} {s : List ℕ} {top : ℕ} {v : List ℕ} → Started file n s top v → First s n top v
-walk-first f = record { kept = f .kept; numbers = f .numbers; holds = f .holds }
-
-module _ (targets file : List ℕ) (n : ℕ) (s : List ℕ) (top₀ : ℕ) (v : List ℕ) (f : Started file n s top₀ v) (s₁ : List ℕ) (x : Stepped)
+-- vector 0 was put into the pool
+module _ (targets file : List ℕ) (n : ℕ) (s v : List ℕ) (terms : normalised (rulesIn file) ≡ Terms (vectorOf s n v)) (s₁ : List ℕ) (x : Stepped)
     (begins : Begins s n v s₁ x) where
   abbrev first : Step
   first = come (byTargets targets) 0 nothingHeld (firstItem (vectorOf s n v))
@@ -42,7 +39,7 @@ module _ (targets file : List ℕ) (n : ℕ) (s : List ℕ) (top₀ : ℕ) (v : 
   begun = begins .begins (byTargets targets) (omega arith) refl
 
   as-first : walkFrom (byTargets targets) (rulesIn file) ≡ onFrom (byTargets targets) first
-  as-first = walk-by targets (rulesIn file) (Terms (vectorOf s n v)) (f .terms)
+  as-first = walk-by targets (rulesIn file) (Terms (vectorOf s n v)) terms
 
   pub walk-stops : (q : Refusal) → x ≡ Stopped q → Ends n targets s₁ (walkFrom (byTargets targets) (rulesIn file)) x
   walk-stops q e =

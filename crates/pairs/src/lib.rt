@@ -2,10 +2,10 @@
 // The walk is the build's, beside the table with an entry in front of it; it goes row by row and is finished before anything is answered.
 ghost use Prim.Native.Nat.{_<_, _≤_};
 ghost use lib.ListN.{length};
-ghost use Rattle.number.specs.Limits.{bytes};
+ghost use Rattle.number.specs.Limits.{bytes, workCells};
 ghost use Rattle.walk.specs.Walk.{row, rows, walkFrom};
 ghost use Rattle.pool.specs.Index.{Indexed};
-ghost use Rattle.vector.specs.Layout.{items};
+ghost use Rattle.vector.specs.Layout.{items, workLength};
 ghost use Rattle.vector.specs.Memory.{heldOf};
 ghost use Rattle.steps.specs.Step.{Follows};
 ghost use Rattle.start.specs.Start.{rulesIn, Opened};
@@ -105,7 +105,9 @@ fn walk_rows(
 
 // The whole walk of a book's `n` rules beside a table's targets.
 pub fn walk_from<'a>(book: &'a [u8], n: usize, cells: &mut [u64], targets: &'a [u8]) -> Stepped
-    requires { ⌜ Opened (now book) n (now cells) ⌝ }
+    requires { ⌜ Opened (now book) n ⌝ }
+    requires { ⌜ workLength ≤ length (now cells) ⌝ }
+    requires { ⌜ length (now cells) ≤ workCells ⌝ }
     requires { ⌜ Closed (now targets) ⌝ }
     requires { ⌜ HasRow (now targets) 0 ⌝ }
     ensures { λ r. ⌜ Ends n (now (targets .entry)) (now (cells .exit))

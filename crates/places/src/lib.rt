@@ -11,10 +11,11 @@ use book::refusal_of;
 use checking::check_book;
 use checking::check_nodes;
 use number::Taken;
+use number::limits::FIRST_VERSION;
 use number::limits::KINDS;
+use number::limits::LAST_VERSION;
 use number::limits::NODES;
 use number::limits::RULES;
-use number::limits::VERSION;
 use number::read_field;
 
 // The kind of a rule. Past the check the rule is found; a refusal would still be told with its place.
@@ -60,15 +61,16 @@ fn nowhere() -> RulePlace
     ensures { λ r. ⌜ r ≡ noPlace ⌝ }
 {
     RulePlace {
+        version: 0,
         kind: 0,
         nodes: 0,
         at: 0,
     }
 }
 
-// The kind and the node count of the rule at a place, and where its nodes begin.
-fn read_head(book: &[u8], at: usize) -> PlaceRead
-    ensures { λ r. ⌜ placeRead r ≡ readHead (now (book .entry)) at ⌝ }
+// The kind and the node count of the rule at a place of a book of that version, and where its nodes begin.
+fn read_head(book: &[u8], at: usize, version: usize) -> PlaceRead
+    ensures { λ r. ⌜ placeRead r ≡ readHead (now (book .entry)) version at ⌝ }
 {
     let kind = read_field(book, at, 0, KINDS);
     let Taken::Value(k, at_count) = kind else {
@@ -79,6 +81,7 @@ fn read_head(book: &[u8], at: usize) -> PlaceRead
         return PlaceRead::Refused(refusal_of(count));
     };
     PlaceRead::Place(RulePlace {
+        version,
         kind: k,
         nodes: m,
         at: first,
@@ -92,25 +95,25 @@ fn find_rule(book: &[u8], at: usize, version: usize, left: usize) -> PlaceRead
     let mut place = at;
     let mut more = left;
     while 0 < more {
-        let head = read_head(book, place);
+        let head = read_head(book, place, version);
         let PlaceRead::Place(p) = head else {
             return head;
         };
-        let nodes = check_nodes(book, p.at, version, p.nodes, 0);
+        let nodes = check_nodes(book, p.at, version, p.nodes);
         let Taken::Value(_, next) = nodes else {
             return PlaceRead::Refused(refusal_of(nodes));
         };
         more -= 1;
         place = next;
     }
-    read_head(book, place)
+    read_head(book, place, version)
 }
 
 // A rule of a whole book, by its number.
 fn find_from(book: &[u8], rule: usize) -> PlaceRead
     ensures { λ r. ⌜ placeRead r ≡ findFrom (now (book .entry)) rule 0 ⌝ }
 {
-    let version = read_field(book, 0, VERSION, VERSION);
+    let version = read_field(book, 0, FIRST_VERSION, LAST_VERSION);
     let Taken::Value(v, at_rules) = version else {
         return PlaceRead::Refused(refusal_of(version));
     };

@@ -3,20 +3,21 @@
 use Prim.Native.Nat.{ℕ, suc, _+_, _<_, _≤_}
 use native.Mathlib.Omega.{arith}
 use native.Mathlib.Decide.{decLt}
-use mathlib.Core.Path.{_≡_, refl, sym, ap, subst, _∙_}
+use mathlib.Core.Path.{_≡_, refl, sym, ap, _∙_}
 use mathlib.Core.Bool.{Bool, true, false, _&&_}
-use mathlib.Core.List.{List}
+use mathlib.Core.List.{List, [], _∷_, _++_, map}
 use borrow.Author.Tests.{eqb-true, eq-eqb, ne-eqb}
 use lib.Dec.{eqb}
-use lib.ListN.{getD, set}
-use Rattle.meaning.specs.Re.{Re}
+use lib.ListN.{getD, take, set}
+use Rattle.meaning.specs.Re.{Re, bounds, parts}
+use Rattle.meaning.specs.PartLaws.{All}
 use Rattle.meaning.specs.Order.{rank}
 use Rattle.meaning.specs.Tests.{clash, and-true, true-and}
 use Rattle.term.specs.declared.Term.{Term}
 use Rattle.term.specs.declared.Term.the-variants.{Nothing, Empty, Range, Cat, Alt, Star}
 use Rattle.term.specs.Cells.{nodeOf, grow, term, Below}
-use Rattle.term.specs.Nodes.{kindOf, firstOf, secondOf, Held}
-use Rattle.term.specs.ReadLaws.{rank-grow, rebuild, of-kind}
+use Rattle.term.specs.Nodes.{kindOf, firstOf, secondOf, childrenOf, Held}
+use Rattle.term.specs.ReadLaws.{rank-grow, rebuild, parts-grow, below-children, below-again}
 use Rattle.term.specs.CellLaws.{Same, frame, term-node}
 use Rattle.walk.specs.Parts.{holds, withTerm, InPool}
 use Rattle.walk.specs.PartsLaws.{term-held, term-new}
@@ -28,15 +29,15 @@ use Rattle.pool.specs.IndexLaws.{indexed-more}
 
 -- ---- a node by its kind and fields
 
-by-parts : (u w : Term) → kindOf u ≡ kindOf w → firstOf u ≡ firstOf w → secondOf u ≡ secondOf w → u ≡ w
-by-parts u w k a b = rebuild u ∙ rw (k, a, b) (sym (rebuild w))
+by-fields : (u w : Term) → kindOf u ≡ kindOf w → firstOf u ≡ firstOf w → secondOf u ≡ secondOf w → u ≡ w
+by-fields u w k a b = rebuild u ∙ rw (k, a, b) (sym (rebuild w))
 
 -- the code's test of two nodes says equality
 pub node-same : (u w : Term) → sameNode u w ≡ true → u ≡ w
 node-same u w e =
     let p = and-true (eqb (kindOf u) (kindOf w)) (eqb (firstOf u) (firstOf w) && eqb (secondOf u) (secondOf w)) e in
     let q = and-true (eqb (firstOf u) (firstOf w)) (eqb (secondOf u) (secondOf w)) (p .1) in
-    by-parts u w (eqb-true (kindOf u) (kindOf w) (p .0)) (eqb-true (firstOf u) (firstOf w) (q .0)) (eqb-true (secondOf u) (secondOf w) (q .1))
+    by-fields u w (eqb-true (kindOf u) (kindOf w) (p .0)) (eqb-true (firstOf u) (firstOf w) (q .0)) (eqb-true (secondOf u) (secondOf w) (q .1))
 
 pub node-self : (u w : Term) → u ≡ w → sameNode u w ≡ true
 node-self u w e =
@@ -56,42 +57,39 @@ by-second u w e f p q = rw (eq-eqb (kindOf u) (kindOf w) e, eq-eqb (firstOf u) (
 -- ---- nodes and terms
 
 pub below-more : (u : Term) (i j : ℕ) → Below u i → i ≤ j → Below u j
-below-more Nothing i j b h = tt
-below-more Empty i j b h = tt
-below-more (Range lo hi) i j b h = b
-below-more (Cat l r) i j b h = (omega arith, omega arith)
-below-more (Alt l r) i j b h = (omega arith, omega arith)
-below-more (Star l) i j b h = omega arith
+below-more u i j b h = below-again u i j b (go (childrenOf u) (below-children u i b))
+  where
+    go : (ks : List ℕ) → All (λ k. k < i) ks → All (λ k. k < j) ks
+    go [] l = tt
+    go (k ∷ ks) l = (omega (arith, l .0), go ks (l .1))
+
+-- its fields are the bounds of its term, or its children
+fields : (u : Term) (f : ℕ → Re) → _≡_ {A = List ℕ} (firstOf u ∷ secondOf u ∷ []) (take 2 (bounds (grow u f) ++ (childrenOf u ++ (0 ∷ 0 ∷ []))))
+fields Nothing f = refl
+fields Empty f = refl
+fields (Range lo hi) f = refl
+fields (Cat a b) f = refl
+fields (Alt a b) f = refl
+fields (Star a) f = refl
 
 -- where children with equal terms are equal, nodes with equal terms are equal
 module _ (f : ℕ → Re) (top : ℕ) (apart : (i j : ℕ) → i < top → j < top → f i ≡ f j → i ≡ j) where
+  children-same : (is js : List ℕ) → All (λ i. i < top) is → All (λ j. j < top) js → map f is ≡ map f js → is ≡ js
+  children-same [] [] b d e = refl
+  children-same [] (j ∷ js) b d e = absurd (let z : _≡_ {A = ℕ} 0 1 = cc in omega arith)
+  children-same (i ∷ is) [] b d e = absurd (let z : _≡_ {A = ℕ} 0 1 = cc in omega arith)
+  children-same (i ∷ is) (j ∷ js) b d e =
+      let p = apart i j (b .0) (d .0) (cc) in
+      let q = children-same is js (b .1) (d .1) (cc) in
+      cc
+
   node-grown : (u w : Term) → Below u top → Below w top → grow w f ≡ grow u f → w ≡ u
-  node-grown Nothing w b d e = of-kind w 0 (sym (rank-grow w f) ∙ ap rank e)
-  node-grown Empty w b d e = of-kind w 1 (sym (rank-grow w f) ∙ ap rank e)
-  node-grown (Range lo hi) w b d e =
-      let form : w ≡ Range (firstOf w) (secondOf w) = of-kind w 2 (sym (rank-grow w f) ∙ ap rank e) in
-      let g : Re.Range (firstOf w) (secondOf w) ≡ Re.Range lo hi = sym (ap (λ (v : Term). grow v f) form) ∙ e in
-      cc
-  node-grown (Cat a a′) w b d e =
-      let form : w ≡ Cat (firstOf w) (secondOf w) = of-kind w 3 (sym (rank-grow w f) ∙ ap rank e) in
-      let g : Re.Cat (f (firstOf w)) (f (secondOf w)) ≡ Re.Cat (f a) (f a′) = sym (ap (λ (v : Term). grow v f) form) ∙ e in
-      let l : Below (Cat (firstOf w) (secondOf w)) top = subst (λ (v : Term). Below v top) form d in
-      let p : firstOf w ≡ a = apart (firstOf w) a (l .0) (b .0) (cc) in
-      let q : secondOf w ≡ a′ = apart (secondOf w) a′ (l .1) (b .1) (cc) in
-      cc
-  node-grown (Alt a a′) w b d e =
-      let form : w ≡ Alt (firstOf w) (secondOf w) = of-kind w 4 (sym (rank-grow w f) ∙ ap rank e) in
-      let g : Re.Alt (f (firstOf w)) (f (secondOf w)) ≡ Re.Alt (f a) (f a′) = sym (ap (λ (v : Term). grow v f) form) ∙ e in
-      let l : Below (Alt (firstOf w) (secondOf w)) top = subst (λ (v : Term). Below v top) form d in
-      let p : firstOf w ≡ a = apart (firstOf w) a (l .0) (b .0) (cc) in
-      let q : secondOf w ≡ a′ = apart (secondOf w) a′ (l .1) (b .1) (cc) in
-      cc
-  node-grown (Star a) w b d e =
-      let form : w ≡ Star (firstOf w) = of-kind w 5 (sym (rank-grow w f) ∙ ap rank e) in
-      let g : Re.Star (f (firstOf w)) ≡ Re.Star (f a) = sym (ap (λ (v : Term). grow v f) form) ∙ e in
-      let l : Below (Star (firstOf w)) top = subst (λ (v : Term). Below v top) form d in
-      let p : firstOf w ≡ a = apart (firstOf w) a l b (cc) in
-      cc
+  node-grown u w b d e =
+      let c : childrenOf w ≡ childrenOf u =
+      children-same (childrenOf w) (childrenOf u) (below-children w top d) (below-children u top b)
+      (sym (parts-grow w f) ∙ ap parts e ∙ parts-grow u f) in
+      let l : _≡_ {A = List ℕ} (firstOf w ∷ secondOf w ∷ []) (firstOf u ∷ secondOf u ∷ []) = fields w f ∙ rw (c, e) (sym (fields u f)) in
+      by-fields w u (sym (rank-grow w f) ∙ ap rank e ∙ rank-grow u f) (cc) (cc)
 
 module _ (x s : List ℕ) (top : ℕ) (u : Term) (p : Pooled s top) (i : Indexed x s top) (b : Below u top) where
   -- a cell that holds the node holds its term, and the other way round

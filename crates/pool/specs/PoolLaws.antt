@@ -95,9 +95,6 @@ pool-once {s} {top} {terms} p = rw (← p .holds) (record { apart = apart })
 pub pool-length : {s : List ℕ} {top : ℕ} {terms : List Re} → Pool s top terms → length terms ≡ top
 pool-length {s} {top} p = ap length (sym (p .holds)) ∙ terms-length s top
 
-pub pool-at : {s : List ℕ} {top : ℕ} {terms : List Re} (i : ℕ) → Pool s top terms → i < top → getD terms i Nothing ≡ term s i
-pool-at {s} {top} i p h = ap (λ (l : List Re). getD l i Nothing) (sym (p .holds)) ∙ terms-at s top i h
-
 -- a pool in which nothing stands yet
 pub pool-none : (s : List ℕ) → length s ≤ workCells → Pool s 0 []
 unfolding termsOf

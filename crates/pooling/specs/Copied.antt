@@ -4,14 +4,14 @@ use Prim.Native.Nat.{ℕ, _+_, _-_, _<_, _≤_}
 use mathlib.Core.Path.{_≡_}
 use mathlib.Core.List.{List, []}
 use lib.ListN.{length, getD, drop}
-use Rattle.meaning.specs.Re.{Re, size}
+use Rattle.meaning.specs.Re.{Re, size, sizes}
 use Rattle.term.specs.declared.Term.{Term}
 use Rattle.term.specs.Cells.{grow, term, Below, Sound}
-use Rattle.term.specs.Places.{termsAt, sizes}
+use Rattle.term.specs.Places.{termsAt}
 use Rattle.walk.specs.Parts.{withParts}
 use Rattle.pool.specs.Pooled.{termsOf}
 use Rattle.pool.specs.Index.{Open, Put}
-use Rattle.pooling.specs.Postfix.{operand, rest, takes, made, left, Runs, waits, withAll, Low, nodesFrom}
+use Rattle.pooling.specs.Postfix.{waits, takes, opened, Runs, withAll, Low, nodesFrom}
 
 -- a child was listed, or stands in the pool; places above the list are as they were
 pub record Waited (base child : ℕ) (o : List ℕ) (n : ℕ) (o′ : List ℕ) (n′ : ℕ) : Type 0 where
@@ -44,18 +44,22 @@ pub record Copying (s : List ℕ) (top i long : ℕ) (o : List ℕ) (start n : �
   pub runs : Runs top (term s) (term s i) (withParts (termsOf s top) (term s i)) (nodesFrom o start) (termsAt (term s) o n)
       (withAll (termsOf s top) (termsAt (term s) o n))
 
+-- g tells the terms of numbers in the pool as it has grown, f those of the cells that were copied: one term below base
+abbrev pub Alike : ℕ → (ℕ → Re) → (ℕ → Re) → Type 0
+Alike base f g = (a : ℕ) → a < base → g a ≡ f a
+
 -- a child's number, and the stack without it
 pub record Taken (base child : ℕ) (o : List ℕ) (n number n′ : ℕ) : Type 0 where
   pub fewer : n′ + takes base child ≡ n
-  pub stack : (f : ℕ → Re) → termsAt f o n′ ≡ rest base child (termsAt f o n)
-  pub is : (f : ℕ → Re) → f number ≡ operand base f child (termsAt f o n)
+  pub is : (f g : ℕ → Re) → Alike base f g → (vs : List Re) → termsAt g o n ≡ waits base f child vs
+      → (termsAt g o n′ ≡ vs) × (g number ≡ f child)
   pub low : (top : ℕ) → base ≤ top → Low o n top → number < top
 
 -- a node over the numbers of its children, and the stack without them
 pub record Rooted (base : ℕ) (u : Term) (o : List ℕ) (n : ℕ) (u′ : Term) (n′ : ℕ) : Type 0 where
   pub fewer : n′ ≤ n
-  pub stack : (f : ℕ → Re) → termsAt f o n′ ≡ left base u (termsAt f o n)
-  pub is : (f : ℕ → Re) → grow u′ f ≡ made base f u (termsAt f o n)
+  pub is : (f g : ℕ → Re) → Alike base f g → (vs : List Re) → termsAt g o n ≡ opened base f u vs
+      → (termsAt g o n′ ≡ vs) × (grow u′ g ≡ grow u f)
   pub below : (top : ℕ) → base ≤ top → Low o n top → Below u′ top
 
 -- on the way: the nodes from k on are to be put, and the numbers of n terms that were put stand in the front. The pool has grown

@@ -8,21 +8,20 @@ use lib.ListN.{length, getD, set, drop, length-set}
 use lib.Seq.{getD-set-other, drop-set-lt}
 use borrow.Author.Count.{below-more}
 use borrow.Author.Tests.{lt-ltb, le-ltb}
-use Rattle.meaning.specs.Re.{Re, size}
-use Rattle.meaning.specs.SizeLaws.{size-some}
+use Rattle.meaning.specs.Re.{Re, size, sizes}
+use Rattle.meaning.specs.PartLaws.{size-some}
 use Rattle.term.specs.declared.Term.{Term}
-use Rattle.term.specs.declared.Term.the-variants.{Nothing, Empty, Range, Cat, Alt, Star}
 use Rattle.term.specs.Cells.{nodeOf, grow, term, Sound}
-use Rattle.term.specs.Nodes.{kindOf, firstOf, secondOf, Found}
-use Rattle.term.specs.Places.{termsAt, sizes}
+use Rattle.term.specs.Nodes.{firstOf, secondOf, arityOf, Found, TwoParts}
+use Rattle.term.specs.Places.{termsAt}
 use Rattle.term.specs.CellLaws.{found}
-use Rattle.term.specs.ReadLaws.{first-below, second-below, first-size, pair-size}
+use Rattle.term.specs.ReadLaws.{one-part, two-parts, one-size, two-size}
 use Rattle.term.specs.PlaceLaws.{set-there, set-other, terms-same, terms-last, terms-set, sizes-most, sizes-last}
 use Rattle.walk.specs.Parts.{withParts}
 use Rattle.pool.specs.Pooled.{termsOf}
 use Rattle.pool.specs.PoolLaws.{term-held-below}
 use Rattle.pool.specs.ClosedLaws.{pool-closed}
-use Rattle.pooling.specs.Postfix.{waits, opened, withAll, Low, nodesFrom}
+use Rattle.pooling.specs.Postfix.{waits, allWait, opened, withAll, Low, nodesFrom}
 use Rattle.pooling.specs.Copied.{Waited, Copied, Copying}
 use Rattle.pooling.specs.PostfixLaws.{runs-opened, opened-sizes, nodes-at, nodes-none}
 
@@ -53,33 +52,20 @@ module _ (base child : ℕ) (o : List ℕ) (n : ℕ) where
         kept = λ i l. drop-set-lt i o n child l;
       }
 
--- ---- a node by its kind
+-- ---- a node by the number of its children
 
-module _ (base : ℕ) (f : ℕ → Re) where
-  opened-leaf : (u : Term) (vs : List Re) → kindOf u < 3 → opened base f u vs ≡ vs
-  opened-leaf Nothing vs h = refl
-  opened-leaf Empty vs h = refl
-  opened-leaf (Range lo hi) vs h = refl
-  opened-leaf (Cat a b) vs h = absurd (omega arith)
-  opened-leaf (Alt a b) vs h = absurd (omega arith)
-  opened-leaf (Star a) vs h = absurd (omega arith)
+module _ (base : ℕ) (f : ℕ → Re) (u : Term) (vs : List Re) where
+  opened-none : arityOf u ≡ 0 → opened base f u vs ≡ vs
+  unfolding allWait
+  opened-none e = rw e
 
-  opened-star : (u : Term) (vs : List Re) → kindOf u ≡ 5 → opened base f u vs ≡ waits base f (firstOf u) vs
-  opened-star (Star a) vs h = refl
-  opened-star Nothing vs h = absurd (omega arith)
-  opened-star Empty vs h = absurd (omega arith)
-  opened-star (Range lo hi) vs h = absurd (omega arith)
-  opened-star (Cat a b) vs h = absurd (omega arith)
-  opened-star (Alt a b) vs h = absurd (omega arith)
+  opened-one : arityOf u ≡ 1 → opened base f u vs ≡ waits base f (firstOf u) vs
+  unfolding allWait
+  opened-one e = rw e
 
-  opened-pair : (u : Term) (vs : List Re) → 2 < kindOf u → (kindOf u ≡ 5 → ⊥)
-      → opened base f u vs ≡ waits base f (secondOf u) (waits base f (firstOf u) vs)
-  opened-pair (Cat a b) vs h n = refl
-  opened-pair (Alt a b) vs h n = refl
-  opened-pair Nothing vs h n = absurd (omega arith)
-  opened-pair Empty vs h n = absurd (omega arith)
-  opened-pair (Range lo hi) vs h n = absurd (omega arith)
-  opened-pair (Star a) vs h n = absurd (n refl)
+  opened-two : arityOf u ≡ 2 → opened base f u vs ≡ waits base f (secondOf u) (waits base f (firstOf u) vs)
+  unfolding allWait
+  opened-two e = rw e
 
 -- ---- the loop
 
@@ -183,39 +169,37 @@ module _ {s : List ℕ} {top i long : ℕ} {o : List ℕ} {start n : ℕ} (t : C
                 (withParts (termsOf s top) (term s i)) (nodesFrom o start) vs u at (here .below) (rw first at (t .runs)));
           }
 
-      pub leaf-next : kindOf u < 3 → Copying s top i long written (start - 1) (n - 1)
-      leaf-next k = next written-long written-low (λ f. written-stack f ∙ sym (opened-leaf top f u (termsAt f o (n - 1)) k)) refl
+      pub leaf-next : arityOf u ≡ 0 → Copying s top i long written (start - 1) (n - 1)
+      leaf-next k = next written-long written-low (λ f. written-stack f ∙ sym (opened-none top f u (termsAt f o (n - 1)) k)) refl
+
+      pub first-inside : n - 1 < length written
+      first-inside = omega (arith, last-inside, written-long, t .same-length)
 
       -- the first child waits, and then the second
-      module _ {a : ℕ} (deep : 2 < kindOf u) (p : a ≡ firstOf u) where
-        first-low : a < i + 1
-        first-low = omega (arith, first-below here deep, at-low)
+      module _ {a : ℕ} (p : a ≡ firstOf u) {o′ : List ℕ} {n′ : ℕ} (w : Waited top a written (n - 1) o′ n′) where
+        waited-stack : (f : ℕ → Re) → termsAt f o′ n′ ≡ waits top f (firstOf u) (termsAt f o (n - 1))
+        waited-stack f = w .stack f ∙ rw (p, written-stack f)
 
-        pub first-inside : n - 1 < length written
-        first-inside = omega (arith, last-inside, written-long, t .same-length)
+        pub one-next : arityOf u ≡ 1 → Copying s top i long o′ (start - 1) n′
+        one-next k =
+            let part = one-part here k p in
+            next (w .same-length ∙ written-long) (w .low (i + 1) (omega (arith, part .below, at-low)) written-low)
+            (λ f. waited-stack f ∙ sym (opened-one top f u (termsAt f o (n - 1)) k))
+            (w .kept (start - 1) (omega (arith, rests, one-size part, size-some (term s a))))
 
-        module _ {o′ : List ℕ} {n′ : ℕ} (w : Waited top a written (n - 1) o′ n′) where
-          waited-stack : (f : ℕ → Re) → termsAt f o′ n′ ≡ waits top f (firstOf u) (termsAt f o (n - 1))
-          waited-stack f = w .stack f ∙ rw (p, written-stack f)
+        module _ {b : ℕ} (k : arityOf u ≡ 2) (q : b ≡ secondOf u) where
+          both : TwoParts s at a b
+          both = two-parts here k p q
 
-          pub star-next : kindOf u ≡ 5 → Copying s top i long o′ (start - 1) n′
-          star-next k =
-              next (w .same-length ∙ written-long) (w .low (i + 1) first-low written-low)
-              (λ f. waited-stack f ∙ sym (opened-star top f u (termsAt f o (n - 1)) k))
-              (w .kept (start - 1) (omega (arith, rests, first-size s at u here deep a p, size-some (term s a))))
+          room : n + 1 < start
+          room = omega (arith, rests, two-size both, size-some (term s a), size-some (term s b))
 
-          module _ {b : ℕ} (wide : kindOf u ≡ 5 → ⊥) (q : b ≡ secondOf u) where
-            second-low : b < i + 1
-            second-low = omega (arith, second-below here deep wide, at-low)
+          pub second-inside : n′ < length o′
+          second-inside = omega (arith, room, w .most, t .within, written-long, w .same-length)
 
-            room : n + 1 < start
-            room = omega (arith, rests, pair-size s at u here deep wide a b p q, size-some (term s a), size-some (term s b))
-
-            pub second-inside : n′ < length o′
-            second-inside = omega (arith, room, w .most, t .within, written-long, w .same-length)
-
-            pub pair-next : {o″ : List ℕ} {n″ : ℕ} → Waited top b o′ n′ o″ n″ → Copying s top i long o″ (start - 1) n″
-            pair-next x =
-                next (x .same-length ∙ w .same-length ∙ written-long) (x .low (i + 1) second-low (w .low (i + 1) first-low written-low))
-                (λ f. x .stack f ∙ rw (q, waited-stack f) (sym (opened-pair top f u (termsAt f o (n - 1)) deep wide)))
-                (x .kept (start - 1) (omega (arith, room, w .most)) ∙ w .kept (start - 1) (omega (arith, room)))
+          pub two-next : {o″ : List ℕ} {n″ : ℕ} → Waited top b o′ n′ o″ n″ → Copying s top i long o″ (start - 1) n″
+          two-next x =
+              let first-low = w .low (i + 1) (omega (arith, both .first, at-low)) written-low in
+              next (x .same-length ∙ w .same-length ∙ written-long) (x .low (i + 1) (omega (arith, both .second, at-low)) first-low)
+              (λ f. x .stack f ∙ rw (q, waited-stack f) (sym (opened-two top f u (termsAt f o (n - 1)) k)))
+              (x .kept (start - 1) (omega (arith, room, w .most)) ∙ w .kept (start - 1) (omega (arith, room)))

@@ -5,70 +5,47 @@ use mathlib.Core.Path.{_≡_}
 use mathlib.Core.Bool.{cond}
 use mathlib.Core.List.{List, [], _∷_, map}
 use lib.Dec.{ltb}
-use lib.ListN.{length, getD, drop}
-use Rattle.number.specs.Limits.{lastByte}
+use lib.ListN.{getD, drop}
 use Rattle.meaning.specs.Re.{Re}
 use Rattle.term.specs.declared.Term.{Term}
-use Rattle.term.specs.declared.Term.the-variants.{Nothing, Empty, Range, Cat, Alt, Star}
-use Rattle.term.specs.Cells.{nodeOf}
+use Rattle.term.specs.Cells.{nodeOf, grow, Below}
+use Rattle.term.specs.Nodes.{childrenOf}
 use Rattle.walk.specs.Parts.{withTerm, withParts}
 
 -- ---- nodes and a stack of terms, the last one first
 
 module _ (base : ℕ) where
-  -- a child below base stands in the pool, and its term is that of its cell; any other was made last: the stack's first is taken
-  unfoldable pub operand : (ℕ → Re) → ℕ → List Re → Re
-  operand f a vs = cond (ltb a base) (f a) (getD vs 0 Re.Nothing)
-
-  unfoldable pub rest : ℕ → List Re → List Re
-  rest a vs = cond (ltb a base) vs (drop 1 vs)
+  -- a child below base stands in the pool; the term of any other waits on the stack
+  unfoldable pub waits : (ℕ → Re) → ℕ → List Re → List Re
+  waits f a vs = cond (ltb a base) vs (f a ∷ vs)
 
   unfoldable pub takes : ℕ → ℕ
   takes a = cond (ltb a base) 0 1
 
-  -- the term that a node makes of its operands, the second child's first, and the stack without them
-  abbrev pub made : (ℕ → Re) → Term → List Re → Re
-  made f Nothing vs = Re.Nothing
-  made f Empty vs = Re.Empty
-  made f (Range lo hi) vs = Re.Range lo hi
-  made f (Cat a b) vs = Re.Cat (operand f a (rest b vs)) (operand f b vs)
-  made f (Alt a b) vs = Re.Alt (operand f a (rest b vs)) (operand f b vs)
-  made f (Star a) vs = Re.Star (operand f a vs)
+  -- the same of children, from left to right
+  unfoldable pub allWait : (ℕ → Re) → List ℕ → List Re → List Re
+  allWait f [] vs = vs
+  allWait f (a ∷ js) vs = allWait f js (waits f a vs)
 
-  abbrev pub left : Term → List Re → List Re
-  left Nothing vs = vs
-  left Empty vs = vs
-  left (Range lo hi) vs = vs
-  left (Cat a b) vs = rest a (rest b vs)
-  left (Alt a b) vs = rest a (rest b vs)
-  left (Star a) vs = rest a vs
+  unfoldable pub allTake : List ℕ → ℕ
+  allTake [] = 0
+  allTake (a ∷ js) = takes a + allTake js
 
-  -- a stack of n terms has its operands; its bounds are bytes
-  abbrev pub Fit : Term → ℕ → Type 0
-  Fit Nothing n = Unit
-  Fit Empty n = Unit
-  Fit (Range lo hi) n = (lo ≤ lastByte) × (hi ≤ lastByte)
-  Fit (Cat a b) n = takes a + takes b ≤ n
-  Fit (Alt a b) n = takes a + takes b ≤ n
-  Fit (Star a) n = takes a ≤ n
+  -- a node taken apart: its children wait
+  abbrev pub opened : (ℕ → Re) → Term → List Re → List Re
+  opened f u vs = allWait f (childrenOf u) vs
 
-  -- worked off on this stack and pool, the nodes make v alone, and the pool then holds `all`
+  -- a stack of n terms may have what waits for the node, and the node may stand somewhere
+  pub record Fit (u : Term) (n : ℕ) : Type 0 where
+    pub place : ℕ
+    pub below : Below u place
+    pub enough : allTake (childrenOf u) ≤ n
+
+  -- worked off on this stack and pool, the nodes make v alone, and the pool then holds `all`: what waits for a node makes way for its term
   abbrev pub Runs : (ℕ → Re) → Re → List Re → List Term → List Re → List Re → Type 0
   Runs f v all [] vs pool = (vs ≡ v ∷ []) × (pool ≡ all)
-  Runs f v all (u ∷ us) vs pool = Fit u (length vs) × Runs f v all us (made f u vs ∷ left u vs) (withTerm pool (made f u vs))
-
-  -- ---- the other way round: a term is taken apart, and its children wait
-
-  unfoldable pub waits : (ℕ → Re) → ℕ → List Re → List Re
-  waits f a vs = cond (ltb a base) vs (f a ∷ vs)
-
-  abbrev pub opened : (ℕ → Re) → Term → List Re → List Re
-  opened f Nothing vs = vs
-  opened f Empty vs = vs
-  opened f (Range lo hi) vs = vs
-  opened f (Cat a b) vs = waits f b (waits f a vs)
-  opened f (Alt a b) vs = waits f b (waits f a vs)
-  opened f (Star a) vs = waits f a vs
+  Runs f v all (u ∷ us) vs pool =
+      (place : ℕ) × Below u place × (left : List Re) × (vs ≡ opened f u left) × Runs f v all us (grow u f ∷ left) (withTerm pool (grow u f))
 
 -- the pool with all the parts of a stack's terms, the last one's last
 unfoldable pub withAll : List Re → List Re → List Re

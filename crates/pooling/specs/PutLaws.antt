@@ -3,32 +3,30 @@
 use Prim.Native.Nat.{ℕ, _+_, _-_, _<_, _≤_}
 use native.Mathlib.Omega.{arith}
 use mathlib.Core.Path.{_≡_, refl, sym, ap, _∙_}
-use mathlib.Core.Bool.{Bool, true, false, cond}
-use mathlib.Core.List.{List, [], _∷_}
-use lib.Dec.{ltb}
-use lib.ListN.{length, getD, set, drop, length-set}
+use mathlib.Core.List.{List, [], _∷_, map}
+use lib.ListN.{length, getD, take, set, drop, length-set}
 use lib.Seq.{drop-set-lt}
 use borrow.Author.Count.{below-more}
-use borrow.Author.Tests.{ltb-true, lt-ltb, le-ltb}
+use borrow.Author.Tests.{lt-ltb, le-ltb}
 use Rattle.meaning.specs.Re.{Re, size}
+use Rattle.meaning.specs.PartLaws.{All}
 use Rattle.term.specs.declared.Term.{Term}
-use Rattle.term.specs.declared.Term.the-variants.{Nothing, Empty, Range, Cat, Alt, Star}
-use Rattle.term.specs.Cells.{nodeOf, grow, term, Below}
-use Rattle.term.specs.Nodes.{kindOf, Found}
+use Rattle.term.specs.Cells.{rebuilt, nodeOf, grow, term, Below}
+use Rattle.term.specs.Nodes.{kindOf, firstOf, secondOf, arityOf, childrenOf, Found}
 use Rattle.term.specs.Places.{termsAt}
 use Rattle.term.specs.CellLaws.{frame}
-use Rattle.term.specs.ReadLaws.{leaf-size}
+use Rattle.term.specs.ReadLaws.{grow-rebuilt, below-rebuilt, grow-agree, below-again, no-parts, leaf-size}
 use Rattle.term.specs.PlaceLaws.{set-there, set-other, terms-length, terms-same, terms-last, terms-set}
-use Rattle.walk.specs.Parts.{withTerm, withParts}
-use Rattle.walk.specs.PartsLaws.{parts-held}
+use Rattle.walk.specs.Parts.{withTerm, withParts, withVector}
+use Rattle.walk.specs.PartsLaws.{with-parts, parts-held}
 use Rattle.pool.specs.Pooled.{termsOf}
 use Rattle.pool.specs.Index.{After, Put, Open}
 use Rattle.pool.specs.PoolLaws.{pool-as, term-held-below}
 use Rattle.pool.specs.IndexLaws.{open-less, open-after}
 use Rattle.pool.specs.ClosedLaws.{pool-closed}
-use Rattle.pooling.specs.Postfix.{operand, rest, takes, made, left, Fit, Runs, nodesFrom}
+use Rattle.pooling.specs.Postfix.{waits, takes, allWait, allTake, Fit, Runs, nodesFrom}
 use Rattle.pooling.specs.Copied.{Copied, Taken, Rooted, Putting}
-use Rattle.pooling.specs.PostfixLaws.{nodes-at, nodes-none}
+use Rattle.pooling.specs.PostfixLaws.{all-length, nodes-at, nodes-none}
 
 -- ---- the quick ways
 
@@ -58,42 +56,23 @@ abbrev Node : List ℕ → ℕ → Term → List ℕ → List ℕ → ℕ → �
 Node s top u x′ s′ root top′ = After s top (withTerm (termsOf s top) (grow u (term s))) x′ s′ root top′ (grow u (term s)) (top + 1)
 
 -- a node without children is put alone
-leaf-parts : (p : List Re) (u : Term) (f : ℕ → Re) → kindOf u < 3 → withTerm p (grow u f) ≡ withParts p (grow u f)
-unfolding withParts
-leaf-parts p Nothing f h = refl
-leaf-parts p Empty f h = refl
-leaf-parts p (Range lo hi) f h = refl
-leaf-parts p (Cat a b) f h = absurd (omega arith)
-leaf-parts p (Alt a b) f h = absurd (omega arith)
-leaf-parts p (Star a) f h = absurd (omega arith)
-
-leaf-below : (u : Term) (i j : ℕ) → Below u i → kindOf u < 3 → Below u j
-leaf-below Nothing i j b h = tt
-leaf-below Empty i j b h = tt
-leaf-below (Range lo hi) i j b h = b
-leaf-below (Cat l r) i j b h = absurd (omega arith)
-leaf-below (Alt l r) i j b h = absurd (omega arith)
-leaf-below (Star l) i j b h = absurd (omega arith)
-
-pub leaf-fits : {s : List ℕ} {i : ℕ} {u : Term} (j : ℕ) → Found s i u → kindOf u < 3 → Below u j
-leaf-fits {s} {i} {u} j f h = leaf-below u i j (f .below) h
-
-pub put-leaf : {s x′ s′ : List ℕ} {top i root top′ : ℕ} {u : Term} → Found s i u → kindOf u < 3 → Node s top u x′ s′ root top′
+pub put-leaf : {s x′ s′ : List ℕ} {top i root top′ : ℕ} {u : Term} → Found s i u → arityOf u ≡ 0 → Node s top u x′ s′ root top′
     → Put s top (termsOf s top) x′ s′ root top′ (term s i) (top + size (term s i))
+unfolding withVector
 put-leaf {s} {x′} {s′} {top} {i} {root} {top′} {u} f h a =
-    let one : size (term s i) ≡ 1 = leaf-size s i u f h in
-    rw (one, f .is, ← leaf-parts (termsOf s top) u (term s) h) a
+    let none = no-parts f h in
+    let alone : withParts (termsOf s top) (term s i) ≡ withTerm (termsOf s top) (term s i) = with-parts (termsOf s top) (term s i) ∙ rw none in
+    rw (leaf-size (term s i) none, alone, f .is) a
 
 -- ---- a node over the numbers of its children
 
 module _ (base child : ℕ) (o : List ℕ) (n : ℕ) where
   pub taken-held : child < base → Taken base child o n child n
-  unfolding takes rest operand
+  unfolding takes waits
   taken-held h =
       record {
         fewer = rw (lt-ltb child base h) (omega arith);
-        stack = λ f. rw (lt-ltb child base h);
-        is = λ f. rw (lt-ltb child base h);
+        is = λ f g same vs e. (rw (lt-ltb child base h) at e, same child h);
         low = λ top k l. omega arith;
       }
 
@@ -102,76 +81,76 @@ module _ (base child : ℕ) (o : List ℕ) (n : ℕ) where
   takes-some h k = let k′ = rw (le-ltb child base (omega arith)) at k in omega arith
 
   pub taken-made : (child < base → ⊥) → 0 < n → Taken base child o n (getD o (n - 1) 0) (n - 1)
-  unfolding takes rest operand
+  unfolding takes waits
   taken-made h some =
       record {
         fewer = rw (le-ltb child base (omega arith)) (omega arith);
-        stack = λ f. rw (le-ltb child base (omega arith), terms-last f o n some);
-        is = λ f. rw (le-ltb child base (omega arith), terms-last f o n some);
+        is = λ f g same vs e.
+            let both : g (getD o (n - 1) 0) ∷ termsAt g o (n - 1) ≡ f child ∷ vs = sym (terms-last g o n some) ∙ rw (le-ltb child base (omega arith)) at e in
+            (cc, cc);
         low = λ top k l. l (n - 1) (omega arith);
       }
 
-pub fit-as : (base n : ℕ) {u : Term} (w : Term) → Fit base u n → u ≡ w → Fit base w n
-fit-as base n w h e = rw e at h
+-- a node over other children
+module _ (u w : Term) (kind x y : ℕ) (d : w ≡ rebuilt kind x y) (k : kind ≡ kindOf u) (some : arityOf u ≡ 0 → ⊥) where
+  over : (f g : ℕ → Re) → map g (take (arityOf u) (x ∷ y ∷ [])) ≡ map f (childrenOf u) → grow w g ≡ grow u f
+  over f g e = rw (d, k) (grow-rebuilt u x y f g (λ z. absurd (some z)) e)
 
-module _ {base : ℕ} {o : List ℕ} {n : ℕ} {u : Term} where
-  rooted-as : {w u′ : Term} {n′ : ℕ} → u ≡ w → Rooted base w o n u′ n′ → Rooted base u o n u′ n′
-  rooted-as e r = rw e r
+  stands : (i top : ℕ) → Below u i → All (λ j. j < top) (take (arityOf u) (x ∷ y ∷ [])) → Below w top
+  stands i top b l = rw (d, k) (below-rebuilt u x y i top (λ z. absurd (some z)) b l)
 
-  pub rooted-nothing : u ≡ Nothing → Rooted base u o n u n
-  rooted-nothing e = rw e (record { fewer = omega arith; stack = λ f. refl; is = λ f. refl; below = λ top m l. tt })
+-- the stack has what the node takes
+module _ {base n : ℕ} {u : Term} (h : Fit base u n) where
+  pub takes-one : {a : ℕ} → arityOf u ≡ 1 → a ≡ firstOf u → takes base a ≤ n
+  unfolding allTake
+  takes-one e p = let some = rw (e, ← p) at (h .enough) in omega arith
 
-  pub rooted-empty : u ≡ Empty → Rooted base u o n u n
-  rooted-empty e = rw e (record { fewer = omega arith; stack = λ f. refl; is = λ f. refl; below = λ top m l. tt })
+  pub takes-two : arityOf u ≡ 2 → {a b : ℕ} → a ≡ firstOf u → b ≡ secondOf u → takes base a + takes base b ≤ n
+  unfolding allTake
+  takes-two e p q = let some = rw (e, ← p, ← q) at (h .enough) in omega arith
 
-  pub rooted-range : {lo hi : ℕ} → u ≡ Range lo hi → Fit base u n → Rooted base u o n u n
-  rooted-range {lo} {hi} e h =
-      let h′ = fit-as base n (Range lo hi) h e in
-      rw e (record { fewer = omega arith; stack = λ f. refl; is = λ f. refl; below = λ top m l. h′ })
+  pub takes-last : arityOf u ≡ 2 → {b : ℕ} → b ≡ secondOf u → takes base b ≤ n
+  takes-last e q = omega (arith, takes-two e refl q)
 
-  pub rooted-star : {a x l : ℕ} → u ≡ Star a → Taken base a o n x l → Rooted base u o n (Star x) l
-  rooted-star e p =
-      rooted-as e
-      (record { fewer = omega (arith, p .fewer); stack = λ f. p .stack f; is = λ f. ap Re.Star (p .is f); below = λ top h k. p .low top h k })
-
-  pub rooted-cat : {a b x y m l : ℕ} → u ≡ Cat a b → Taken base b o n y m → Taken base a o m x l → Rooted base u o n (Cat x y) l
-  rooted-cat {a} e q p = rooted-as e (
+module _ {base : ℕ} {o : List ℕ} {n : ℕ} {u : Term} (h : Fit base u n) where
+  pub rooted-none : arityOf u ≡ 0 → Rooted base u o n u n
+  unfolding allWait
+  rooted-none e =
+      let alone : (j : ℕ) → Below u j = λ j. below-again u (h .place) j (h .below) (rw e tt) in
       record {
-        fewer = omega (arith, p .fewer, q .fewer);
-        stack = λ f. p .stack f ∙ ap (rest base a) (q .stack f);
-        is = λ f. rw (p .is f, q .is f, q .stack f);
-        below = λ top h k. (p .low top h (λ j z. k j (omega (arith, q .fewer))), q .low top h k);
+        fewer = omega arith;
+        is = λ f g same vs d. (rw e at d, grow-agree u 0 g f (alone 0) (λ j k. absurd (omega arith)));
+        below = λ top m l. alone top;
       }
-      )
 
-  pub rooted-alt : {a b x y m l : ℕ} → u ≡ Alt a b → Taken base b o n y m → Taken base a o m x l → Rooted base u o n (Alt x y) l
-  rooted-alt {a} e q p = rooted-as e (
+  pub rooted-one : {w : Term} {kind x a m : ℕ} → w ≡ rebuilt kind x 0 → kind ≡ kindOf u → arityOf u ≡ 1 → a ≡ firstOf u
+      → Taken base a o n x m → Rooted base u o n w m
+  unfolding allWait
+  rooted-one {w} {kind} {x} d k e p t =
+      let some : arityOf u ≡ 0 → ⊥ = λ z. omega arith in
       record {
-        fewer = omega (arith, p .fewer, q .fewer);
-        stack = λ f. p .stack f ∙ ap (rest base a) (q .stack f);
-        is = λ f. rw (p .is f, q .is f, q .stack f);
-        below = λ top h k. (p .low top h (λ j z. k j (omega (arith, q .fewer))), q .low top h k);
+        fewer = omega (arith, t .fewer);
+        is = λ f g same vs z.
+            let got = t .is f g same vs (rw (e, ← p) at z) in
+            (got .0, over u w kind x 0 d k some f g (rw (e, got .1, p)));
+        below = λ top l low. stands u w kind x 0 d k some (h .place) top (h .below) (rw e (t .low top l low, tt));
       }
-      )
 
--- ---- the same term of the same cells below base
-
-module _ (base : ℕ) (f g : ℕ → Re) (same : (a : ℕ) → a < base → f a ≡ g a) where
-  operand-same : (a : ℕ) (vs : List Re) → operand base f a vs ≡ operand base g a vs
-  unfolding operand
-  operand-same a vs = go (ltb a base) refl
-    where
-      go : (b : Bool) → ltb a base ≡ b → cond b (f a) (getD vs 0 Re.Nothing) ≡ cond b (g a) (getD vs 0 Re.Nothing)
-      go true e = same a (ltb-true a base e)
-      go false e = refl
-
-  made-same : (u : Term) (vs : List Re) → made base f u vs ≡ made base g u vs
-  made-same Nothing vs = refl
-  made-same Empty vs = refl
-  made-same (Range lo hi) vs = refl
-  made-same (Cat a b) vs = rw (operand-same a (rest base b vs), operand-same b vs)
-  made-same (Alt a b) vs = rw (operand-same a (rest base b vs), operand-same b vs)
-  made-same (Star a) vs = rw (operand-same a vs)
+  pub rooted-two : {w : Term} {kind x y a b m l : ℕ} → w ≡ rebuilt kind x y → kind ≡ kindOf u → arityOf u ≡ 2 → a ≡ firstOf u → b ≡ secondOf u
+      → Taken base b o n y m → Taken base a o m x l → Rooted base u o n w l
+  unfolding allWait
+  rooted-two {w} {kind} {x} {y} {a} d k e p q second first =
+      let some : arityOf u ≡ 0 → ⊥ = λ z. omega arith in
+      record {
+        fewer = omega (arith, first .fewer, second .fewer);
+        is = λ f g same vs z.
+            let got = second .is f g same (waits base f a vs) (rw (e, ← p, ← q) at z) in
+            let then = first .is f g same vs (got .0) in
+            (then .0, over u w kind x y d k some f g (rw (e, then .1, got .1, p, q)));
+        below = λ top l low.
+            let rest = first .low top l (λ j z. low j (omega (arith, second .fewer))) in
+            stands u w kind x y d k some (h .place) top (h .below) (rw e (rest, (second .low top l low, tt)));
+      }
 
 -- ---- the loop
 
@@ -230,8 +209,16 @@ module _ {s : List ℕ} {top : ℕ} {v : Re} {long start : ℕ} {x s′ : List �
     runs : Runs top (term s) v (withParts (termsOf s top) v) (u ∷ nodesFrom o (k + 1)) (termsAt (term s′) o n) (termsOf s′ top′)
     runs = rw (nodes-at o k (omega (arith, t .same-length)), ← e) at (t .runs)
 
+    abbrev left : List Re
+    left = runs .2
+
     pub fit : Fit top u n
-    fit = rw (terms-length (term s′) o n) at (runs .0)
+    fit =
+        record {
+          place = runs .0;
+          below = runs .1;
+          enough = omega (arith, terms-length (term s′) o n, ap length (runs .3), all-length top (term s) (childrenOf u) left);
+        }
 
     module _ {u′ : Term} {n′ : ℕ} (r : Rooted top u o n u′ n′) where
       pub asks : Open x s′ top′ 1 × Below u′ top′
@@ -253,25 +240,22 @@ module _ {s : List ℕ} {top : ℕ} {v : Re} {long start : ℕ} {x s′ : List �
         low : (j : ℕ) → j < n′ → getD o j 0 < top′
         low j h = t .low j (omega (arith, r .fewer))
 
-        -- the terms on the stack
-        abbrev vs : List Re
-        vs = termsAt (term s′) o n
+        -- the terms on the stack, and the node's own
+        made : (termsAt (term s′) o n′ ≡ left) × (grow u′ (term s′) ≡ grow u (term s))
+        made = r .is (term s) (term s′) (λ i h. frame s s′ top i (t .pool) (t .kept-below) h) left (runs .3)
 
-        is : made top (term s) u vs ≡ grow u′ (term s′)
-        is = made-same top (term s) (term s′) (λ i h. sym (frame s s′ top i (t .pool) (t .kept-below) h)) u vs ∙ sym (r .is (term s′))
-
-        below : termsAt (term s″) o n′ ≡ left top u vs
+        below : termsAt (term s″) o n′ ≡ left
         below =
             terms-same (term s′) (term s″) o o n′
-            (λ j h. frame s′ s″ top′ (getD o j 0) (t .ready .pooled .sound) (a .kept-below) (low j h)) ∙ r .stack (term s′)
+            (λ j h. frame s′ s″ top′ (getD o j 0) (t .ready .pooled .sound) (a .kept-below) (low j h)) ∙ made .0
 
-        stack : termsAt (term s″) put (n′ + 1) ≡ made top (term s) u vs ∷ left top u vs
-        stack = rw (a .is, below, ← is) at (terms-set (term s″) o n′ root put-inside)
+        stack : termsAt (term s″) put (n′ + 1) ≡ grow u (term s) ∷ left
+        stack = rw (a .is, below, made .1) at (terms-set (term s″) o n′ root put-inside)
 
         pub putting-next : Putting s top v long start x″ s″ top″ put (n′ + 1) (k + 1)
         putting-next =
             let after : drop (k + 1) put ≡ drop (k + 1) o = drop-set-lt (k + 1) o n′ root (omega (arith, r .fewer, t .high)) in
-            let terms : termsOf s″ top″ ≡ withTerm (termsOf s′ top′) (made top (term s) u vs) = rw is (a .pool .holds) in
+            let terms : termsOf s″ top″ ≡ withTerm (termsOf s′ top′) (grow u (term s)) = rw (← made .1) (a .pool .holds) in
             record {
               pool = t .pool;
               same-length = length-set o n′ root ∙ t .same-length;
@@ -279,7 +263,7 @@ module _ {s : List ℕ} {top : ℕ} {v : Re} {long start : ℕ} {x s′ : List �
               within = omega arith;
               high = omega (arith, r .fewer, t .high);
               low = below-more (λ (j : ℕ). getD put j 0 < top″) n′ (λ j h. rw (other j h) (omega (arith, low j h, a .up))) (rw here (a .within));
-              runs = rw (after, stack, terms) (runs .1);
+              runs = rw (after, stack, terms) (runs .4);
               ready = open-after (long - (k + 1)) (t .ready) a (omega arith);
               up = omega (arith, t .up, a .up);
               few = omega (arith, t .few, a .few);

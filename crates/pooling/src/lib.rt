@@ -12,12 +12,12 @@ ghost use Rattle.pooling.specs.Copied.{Waited, Copied, SomeCopied, Taken
 use number::limits::TREE_NODES;
 use pool::Placed;
 use pool::put_node;
-use term::CAT;
-use term::STAR;
 use term::Term;
+use term::arity;
 use term::first_of;
 use term::kind_of;
 use term::node_at;
+use term::rebuilt;
 use term::second_of;
 
 // A child's number in the pool, and how many numbers are left on the stack.
@@ -62,12 +62,12 @@ fn copy_out(cells: &[u64], top: usize, i: usize, out: &mut [u64]) -> usize
         start -= 1;
         out[start] = cells[at];
         let node = node_at(cells, at);
-        let kind = kind_of(node);
-        if kind < CAT {
+        let children = arity(node);
+        if children == 0 {
             continue;
         }
         waiting = wait(out, waiting, top, first_of(node));
-        if kind == STAR {
+        if children == 1 {
             continue;
         }
         waiting = wait(out, waiting, top, second_of(node));
@@ -99,37 +99,26 @@ fn node_of(out: &[u64], height: usize, base: usize, node: Term) -> Node
     requires { ⌜ height ≤ length (now out) ⌝ }
     ensures { λ r. ⌜ Rooted base node (now (out .entry)) height (r .node) (r .height) ⌝ }
 {
-    let alone = Node {
-        node: node,
-        height: height,
-    };
-    match node {
-        Term::Nothing => alone,
-        Term::Empty => alone,
-        Term::Range(_, _) => alone,
-        Term::Cat(a, b) => {
-            let second = child_of(out, height, base, b);
-            let first = child_of(out, second.height, base, a);
-            Node {
-                node: Term::Cat(first.number, second.number),
-                height: first.height,
-            }
-        }
-        Term::Alt(a, b) => {
-            let second = child_of(out, height, base, b);
-            let first = child_of(out, second.height, base, a);
-            Node {
-                node: Term::Alt(first.number, second.number),
-                height: first.height,
-            }
-        }
-        Term::Star(a) => {
-            let child = child_of(out, height, base, a);
-            Node {
-                node: Term::Star(child.number),
-                height: child.height,
-            }
-        }
+    let children = arity(node);
+    if children == 0 {
+        return Node {
+            node: node,
+            height: height,
+        };
+    }
+    let kind = kind_of(node);
+    if children == 1 {
+        let child = child_of(out, height, base, first_of(node));
+        return Node {
+            node: rebuilt(kind, child.number, 0),
+            height: child.height,
+        };
+    }
+    let second = child_of(out, height, base, second_of(node));
+    let first = child_of(out, second.height, base, first_of(node));
+    Node {
+        node: rebuilt(kind, first.number, second.number),
+        height: first.height,
     }
 }
 
@@ -178,7 +167,7 @@ pub fn put_term(index: &mut [u16], cells: &mut [u64], top: usize, i: usize) -> P
         return Placed { root: i, top: top };
     }
     let node = node_at(cells, i);
-    if kind_of(node) < CAT {
+    if arity(node) == 0 {
         return put_node(index, cells, top, node);
     }
     let mut out = [0u64; TREE_NODES];

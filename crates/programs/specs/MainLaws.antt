@@ -18,6 +18,8 @@ use Rattle.table.specs.Table.{Table}
 use Rattle.table.specs.Sheet.{readSheet, writeSheet}
 use Rattle.cutting.specs.Steps.{firstBy}
 use Rattle.cutting.specs.Cut.{cutBy}
+use Rattle.cutting.specs.CutLaws.{by-table}
+use Rattle.cutting.specs.TileLaws.{never-full}
 use Rattle.built.specs.Calls.{buildRead, buildBook}
 use Rattle.built.specs.Main.{the-build}
 use Rattle.lines.specs.Lines.{sameLine, differsLine, refusedLine}
@@ -25,7 +27,6 @@ use Rattle.verdict.specs.Compare.{Verdict}
 use Rattle.verdict.specs.Compare.Verdict.{Same, Differs}
 use Rattle.verdict.specs.Main.{the-own-table}
 use Rattle.programs.specs.Print.{cutBuilt, Printed, sheetNext, bookFirst, verdictLines, comparePrint, sheetBuilt, sheetOf}
-use Rattle.programs.specs.EnoughLaws.{never-full}
 use Rattle.programs.specs.PrintLaws.{cut-both, compare-both, sheet-whole}
 
 -- ---- cut
@@ -35,7 +36,7 @@ pub words-printed : (book : List ℕ) (b : Book) (after : ℕ) (t : Table) (text
 words-printed book b after t text e d small short all = record {
   cut = cutBy (firstBy t) (length text) 0 text;
   right = the-build book b after t e d .cuts (length text) 0 text all;
-  whole = never-full t (length text) 0 text (omega arith);
+  whole = never-full (by-table t) (length text) 0 text (omega arith);
   printed = sym (cut-both book text small short) ∙ ap (cutBuilt book text) d;
 }
 

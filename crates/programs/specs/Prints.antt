@@ -12,10 +12,11 @@ use Rattle.meaning.specs.Derive.{nullable, deriv}
 use Rattle.meaning.specs.Limited.{derivFit, normalFit}
 use Rattle.meaning.specs.Rules.{labelFrom}
 use Rattle.meaning.specs.Words.{scan}
-use Rattle.book.specs.Reads.{readAfter, readNode, readNodes, readRules, book}
+use Rattle.book.specs.Book.{allowed}
+use Rattle.book.specs.Reads.{readRange, readAfter, readNode, moreNodes, moreRules, book}
 use Rattle.book.specs.Expression.{stacked, runNodes}
 use Rattle.book.specs.Sample.{wBytes}
-use Rattle.table.specs.Sheet.{readRuns, readStates, sheet}
+use Rattle.table.specs.Sheet.{moreRuns, moreStates, sheet}
 use Rattle.walk.specs.Vectors.{derived, normalised, sameVector}
 use Rattle.walk.specs.Parts.{holds, withTerm, withParts, withVector}
 use Rattle.walk.specs.Walk.{numberIn, come, step, row, rows, walkFrom}
@@ -156,5 +157,5 @@ prints =
     []
 
 pub prints-hold : map printed prints ≡ map stated prints
-unfolding bytesOfA wBytes wSheet book readRules readNodes readNode readAfter field within readNumber several due stacked runNodes sheet readStates readRuns compareRules firstDiffering buildRules walkFrom rows row step come numberIn withVector withParts withTerm holds sameVector derived normalised labelFrom derivFit normalFit deriv nullable normal star alt nested sorted placed kept gathered cat chain order size cutBy firstBy scan wordLines wordLine doneLine stuckLine differsLine hexLine refusedLine item decimal digitsBy
+unfolding bytesOfA wBytes wSheet book moreRules moreNodes readNode readAfter readRange allowed field within readNumber several due stacked runNodes sheet moreStates moreRuns compareRules firstDiffering buildRules walkFrom rows row step come numberIn withVector withParts withTerm holds sameVector derived normalised labelFrom derivFit normalFit deriv nullable normal star alt nested sorted placed kept gathered cat chain order size cutBy firstBy scan wordLines wordLine doneLine stuckLine differsLine hexLine refusedLine item decimal digitsBy
 prints-hold = refl

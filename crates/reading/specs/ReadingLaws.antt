@@ -18,7 +18,7 @@ use Rattle.number.specs.Numbers.{Bytes, field, taken}
 use Rattle.number.specs.Reading.{Reader, onward, _>>_, answer, refuseIf, mapAnswer}
 use Rattle.number.specs.Lists.{written, written-more, stored-one, writes-none}
 use Rattle.table.specs.Table.{Table}
-use Rattle.table.specs.Sheet.{Rows, readRuns, readStates, readSheet}
+use Rattle.table.specs.Sheet.{Rows, readRuns, moreRuns, moreStates, readSheet}
 use Rattle.table.specs.SheetLaws.{sheet-back}
 use Rattle.reading.specs.Promises.{LaysRow, LaysRows, LaysTable}
 
@@ -63,8 +63,8 @@ Covers sum (got row next) = sum + length row ≡ bytes
 Covers sum (refused r) = Unit {0}
 
 module _ (file : List ℕ) (s : ℕ) where
-  pub runs-cover : (k sum last at : ℕ) → sum ≤ bytes → Covers sum (readRuns file s k sum last at)
-  unfolding readRuns
+  pub runs-cover : (k sum last at : ℕ) → sum ≤ bytes → Covers sum (moreRuns file s k sum last at)
+  unfolding moreRuns
   runs-cover zero sum last at h =
       by-refuse (Covers sum) (ltb sum bytes) (Runs at) at (λ e. tt) (λ e at1. omega (arith, ltb-false sum bytes e))
   runs-cover (suc k) sum last at h =
@@ -72,7 +72,7 @@ module _ (file : List ℕ) (s : ℕ) where
       (λ len at1 e. by-refuse (Covers sum) (ltb bytes (sum + len)) (Runs at) at1 (λ b. tt)
       (λ b at1. by-onward (Covers sum) (field file 0 (s - 1) at1)
       (λ target at2 f. by-refuse (Covers sum) (eqb target last) (Runs at1) at2 (λ d. tt)
-      (λ d at2. by-onward (Covers sum) (readRuns file s k (sum + len) target at2)
+      (λ d at2. by-onward (Covers sum) (moreRuns file s k (sum + len) target at2)
       (λ rest next g.
       let all : sum + len + length rest ≡ bytes = rw g at (runs-cover k (sum + len) target at2 (ltb-false _ _ b)) in
       simp (length-append, length-replicate) (omega arith))
@@ -82,42 +82,42 @@ module _ (file : List ℕ) (s : ℕ) where
 
 -- the ways of reading a row: the first two at its end, the others where a run is to come
 module _ (file : List ℕ) (s k sum last at : ℕ) where
-  pub runs-low : k ≡ 0 → sum < bytes → readRuns file s k sum last at ≡ refused (Runs at)
-  unfolding readRuns
+  pub runs-low : k ≡ 0 → sum < bytes → moreRuns file s k sum last at ≡ refused (Runs at)
+  unfolding moreRuns
   runs-low e h = rw e (simp (lt-ltb _ _ h))
 
-  pub runs-end : k ≡ 0 → bytes ≤ sum → readRuns file s k sum last at ≡ got [] at
-  unfolding readRuns
+  pub runs-end : k ≡ 0 → bytes ≤ sum → moreRuns file s k sum last at ≡ got [] at
+  unfolding moreRuns
   runs-end e h = rw e (simp (le-ltb _ _ h))
 
   module _ (j : ℕ) (some : k ≡ suc j) where
-    pub runs-no-length : {q : Refusal} → field file 1 bytes at ≡ refused q → readRuns file s k sum last at ≡ refused q
-    unfolding readRuns
+    pub runs-no-length : {q : Refusal} → field file 1 bytes at ≡ refused q → moreRuns file s k sum last at ≡ refused q
+    unfolding moreRuns
     runs-no-length e = rw some (simp e)
 
     module _ {len at1 : ℕ} (length-got : field file 1 bytes at ≡ got len at1) where
-      pub runs-long : bytes < sum + len → readRuns file s k sum last at ≡ refused (Runs at)
-      unfolding readRuns
+      pub runs-long : bytes < sum + len → moreRuns file s k sum last at ≡ refused (Runs at)
+      unfolding moreRuns
       runs-long h = rw some (simp (length-got, lt-ltb _ _ h))
 
       pub runs-no-target : sum + len ≤ bytes → {q : Refusal} → field file 0 (s - 1) at1 ≡ refused q
-          → readRuns file s k sum last at ≡ refused q
-      unfolding readRuns
+          → moreRuns file s k sum last at ≡ refused q
+      unfolding moreRuns
       runs-no-target h e = rw some (simp (length-got, le-ltb _ _ h, e))
 
       module _ {target at2 : ℕ} (fits : sum + len ≤ bytes) (target-got : field file 0 (s - 1) at1 ≡ got target at2) where
-        pub runs-same : target ≡ last → readRuns file s k sum last at ≡ refused (Runs at1)
-        unfolding readRuns
+        pub runs-same : target ≡ last → moreRuns file s k sum last at ≡ refused (Runs at1)
+        unfolding moreRuns
         runs-same e = rw some (simp (length-got, le-ltb _ _ fits, target-got, eq-eqb _ _ e))
 
         pub runs-more : (target ≡ last → ⊥)
-            → readRuns file s k sum last at
-            ≡ mapAnswer (λ (rest : List ℕ). replicate len target ++ rest) (readRuns file s j (sum + len) target at2)
-        unfolding readRuns
+            → moreRuns file s k sum last at
+            ≡ mapAnswer (λ (rest : List ℕ). replicate len target ++ rest) (moreRuns file s j (sum + len) target at2)
+        unfolding moreRuns
         runs-more n =
             rw some
             (simp (length-got, le-ltb _ _ fits, target-got, ne-eqb _ _ n)
-            (onward-maps (readRuns file s j (sum + len) target at2) (λ (rest : List ℕ). replicate len target ++ rest)))
+            (onward-maps (moreRuns file s j (sum + len) target at2) (λ (rest : List ℕ). replicate len target ++ rest)))
 
 -- what these leave in memory
 pub row-stopped : {x : Answer (List ℕ)} {s cell : ℕ} {t t′ : List ℕ} {r : Taken} (q : Refusal) → x ≡ refused q → taken r ≡ refused q
@@ -166,33 +166,33 @@ row-refused {x} {s} {q = q} l e = mapped-refused x (λ (row : List ℕ). s) q (s
 
 -- the ways of reading states
 module _ (file : List ℕ) (s k at : ℕ) where
-  pub states-end : k ≡ 0 → readStates file s k at ≡ got (record { labels = []; targets = [] }) at
-  unfolding readStates
+  pub states-end : k ≡ 0 → moreStates file s k at ≡ got (record { labels = []; targets = [] }) at
+  unfolding moreStates
   states-end e = rw e
 
   module _ (j : ℕ) (some : k ≡ suc j) where
-    pub states-no-label : {q : Refusal} → field file 0 rules at ≡ refused q → readStates file s k at ≡ refused q
-    unfolding readStates
+    pub states-no-label : {q : Refusal} → field file 0 rules at ≡ refused q → moreStates file s k at ≡ refused q
+    unfolding moreStates
     states-no-label e = rw some (simp e)
 
     module _ {label at1 : ℕ} (label-got : field file 0 rules at ≡ got label at1) where
-      pub states-no-count : {q : Refusal} → field file 1 bytes at1 ≡ refused q → readStates file s k at ≡ refused q
-      unfolding readStates
+      pub states-no-count : {q : Refusal} → field file 1 bytes at1 ≡ refused q → moreStates file s k at ≡ refused q
+      unfolding moreStates
       states-no-count e = rw some (simp (label-got, e))
 
       module _ {m at2 : ℕ} (count-got : field file 1 bytes at1 ≡ got m at2) where
-        pub states-no-row : {q : Refusal} → readRuns file s m 0 s at2 ≡ refused q → readStates file s k at ≡ refused q
-        unfolding readStates
+        pub states-no-row : {q : Refusal} → readRuns file s m at2 ≡ refused q → moreStates file s k at ≡ refused q
+        unfolding moreStates
         states-no-row e = rw some (simp (label-got, count-got, e))
 
-        pub states-more : {row : List ℕ} {at3 : ℕ} → readRuns file s m 0 s at2 ≡ got row at3
-            → readStates file s k at
-            ≡ mapAnswer (λ (rest : Rows). record { labels = label ∷ rest .labels; targets = row ++ rest .targets }) (readStates file s j at3)
-        unfolding readStates
+        pub states-more : {row : List ℕ} {at3 : ℕ} → readRuns file s m at2 ≡ got row at3
+            → moreStates file s k at
+            ≡ mapAnswer (λ (rest : Rows). record { labels = label ∷ rest .labels; targets = row ++ rest .targets }) (moreStates file s j at3)
+        unfolding moreStates
         states-more {row} {at3} e =
             rw some
             (simp (label-got, count-got, e)
-            (onward-maps (readStates file s j at3) (λ (rest : Rows). record { labels = label ∷ rest .labels; targets = row ++ rest .targets })))
+            (onward-maps (moreStates file s j at3) (λ (rest : Rows). record { labels = label ∷ rest .labels; targets = row ++ rest .targets })))
 
 -- what these leave in memory
 pub rows-stopped : {x : Answer Rows} {s i : ℕ} {l t l′ t′ : List ℕ} {r : Taken} (q : Refusal) → x ≡ refused q → taken r ≡ refused q
@@ -248,13 +248,13 @@ table-stopped q e f =
       cells = rw e tt;
     }
 
-pub table-got : {x : Answer Table} {y : Answer Rows} {s i next : ℕ} {rows : Rows} {l t l′ t′ : List ℕ} {q r : Taken}
+pub table-got : {x : Answer Table} {y : Answer Rows} {s next : ℕ} {rows : Rows} {l t l′ t′ : List ℕ} {q r : Taken}
     → x ≡ got (record { count = s; labels = rows .labels; targets = rows .targets }) next
-    → y ≡ got rows next → i ≡ 0 → LaysRows y s i l t l′ t′ q → taken r ≡ got s next → LaysTable x l t l′ t′ r
-table-got e f z m g =
+    → y ≡ got rows next → LaysRows y s 0 l t l′ t′ q → taken r ≡ got s next → LaysTable x l t l′ t′ r
+table-got e f m g =
     record {
       answer = g ∙ rw e;
-      cells = rw e (rw (f, z) at (m .cells));
+      cells = rw e (rw f at (m .cells));
     }
 
 -- a sheet that was got or refused, by what the code was answered: a table of at most 255 states, one label and 256 targets each

@@ -1,6 +1,6 @@
 // A sheet read into lent memory, state by state and run by run, each cell written as it is read.
 // Each reader follows its definition of table's Sheet and requires room for what it reads; what a refused one has left is not told.
-ghost use Prim.Native.Nat.{_+_, _-_, _*_, _≤_};
+ghost use Prim.Native.Nat.{_+_, _*_, _≤_};
 ghost use lib.ListN.{length};
 ghost use Rattle.number.specs.Limits.{states, bytes, tableCells};
 ghost use Rattle.table.specs.Sheet.{readRuns, readStates, readSheet};
@@ -9,29 +9,27 @@ use number::Refusal;
 use number::Taken;
 use number::limits::BYTES;
 use number::limits::RULES;
+use number::limits::SHEET_VERSION;
 use number::limits::STATES;
-use number::limits::VERSION;
 use table::fill;
 
-// k runs more of the state whose cells start at `base`: `sum` of them are covered, the run before leads to `last`.
+// So many runs of a state of a sheet of s states, whose cells start at `base`; before the first, s stands for the target, which is none.
 fn read_runs(
     sheet: &[u8],
     at: usize,
     s: usize,
-    k: usize,
-    sum: usize,
-    last: usize,
+    count: usize,
     base: usize,
     targets: &mut [u8],
 ) -> Taken
-    requires { ⌜ (1 ≤ s) × (s ≤ states) × (sum ≤ bytes) × (base + bytes ≤ length (now targets)) ⌝ }
-    ensures { λ r. ⌜ LaysRow (readRuns (now (sheet .entry)) s k sum last at) s
-        (now (targets .entry)) (base + sum) (now (targets .exit)) r ⌝ }
+    requires { ⌜ (1 ≤ s) × (s ≤ states) × (base + bytes ≤ length (now targets)) ⌝ }
+    ensures { λ r. ⌜ LaysRow (readRuns (now (sheet .entry)) s count at) s
+        (now (targets .entry)) base (now (targets .exit)) r ⌝ }
 {
     let mut place = at;
-    let mut left = k;
-    let mut covered = sum;
-    let mut before = last;
+    let mut left = count;
+    let mut covered = 0;
+    let mut before = s;
     while 0 < left {
         let length = number::read_field(sheet, place, 1, BYTES);
         let Taken::Value(len, at_target) = length else {
@@ -60,22 +58,14 @@ fn read_runs(
     Taken::Value(s, place)
 }
 
-// k states more of a sheet of s states: the first of them is state s - k.
-fn read_states(
-    sheet: &[u8],
-    at: usize,
-    s: usize,
-    k: usize,
-    labels: &mut [u8],
-    targets: &mut [u8],
-) -> Taken
-    requires { ⌜ (1 ≤ s) × (s ≤ states) × (k ≤ s)
-        × (s ≤ length (now labels)) × (s * bytes ≤ length (now targets)) ⌝ }
-    ensures { λ r. ⌜ LaysRows (readStates (now (sheet .entry)) s k at) s (s - k)
+// All states of a sheet of s states.
+fn read_states(sheet: &[u8], at: usize, s: usize, labels: &mut [u8], targets: &mut [u8]) -> Taken
+    requires { ⌜ (1 ≤ s) × (s ≤ states) × (s ≤ length (now labels)) × (s * bytes ≤ length (now targets)) ⌝ }
+    ensures { λ r. ⌜ LaysRows (readStates (now (sheet .entry)) s at) s 0
         (now (labels .entry)) (now (targets .entry)) (now (labels .exit)) (now (targets .exit)) r ⌝ }
 {
     let mut place = at;
-    let mut left = k;
+    let mut left = s;
     while 0 < left {
         let named = number::read_field(sheet, place, 0, RULES);
         let Taken::Value(label, at_count) = named else {
@@ -87,7 +77,7 @@ fn read_states(
         };
         let i = s - left;
         labels[i] = label as u8;
-        let row = read_runs(sheet, at_runs, s, m, 0, s, i * BYTES, targets);
+        let row = read_runs(sheet, at_runs, s, m, i * BYTES, targets);
         let Taken::Value(_, next) = row else {
             return row;
         };
@@ -103,7 +93,7 @@ pub fn read_sheet(sheet: &[u8], labels: &mut [u8], targets: &mut [u8]) -> Taken
     ensures { λ r. ⌜ LaysTable (readSheet (now (sheet .entry)))
         (now (labels .entry)) (now (targets .entry)) (now (labels .exit)) (now (targets .exit)) r ⌝ }
 {
-    let version = number::read_field(sheet, 0, VERSION, VERSION);
+    let version = number::read_field(sheet, 0, SHEET_VERSION, SHEET_VERSION);
     let Taken::Value(_, at_count) = version else {
         return version;
     };
@@ -111,7 +101,7 @@ pub fn read_sheet(sheet: &[u8], labels: &mut [u8], targets: &mut [u8]) -> Taken
     let Taken::Value(s, at_states) = count else {
         return count;
     };
-    let rows = read_states(sheet, at_states, s, s, labels, targets);
+    let rows = read_states(sheet, at_states, s, labels, targets);
     let Taken::Value(_, next) = rows else {
         return rows;
     };

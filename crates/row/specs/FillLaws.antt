@@ -16,13 +16,13 @@ use Rattle.walk.specs.Walk.{Item, step, Walked, row}
 use Rattle.walk.specs.StepLaws.{item}
 use Rattle.vector.specs.Vectors.{vectorOf}
 use Rattle.vector.specs.Memory.{numbersAt, heldOf, Kept}
-use Rattle.vector.specs.Promises.{Within, Reads}
+use Rattle.vector.specs.Promises.{Within, ReadsShort}
 use Rattle.vector.specs.MemoryLaws.{items-length, items-at}
 use Rattle.steps.specs.declared.Stepped.{Stepped}
 use Rattle.steps.specs.declared.Stepped.the-variants.{Reached, Stopped}
 use Rattle.steps.specs.Step.{wayOf, Ready, Steps}
 use Rattle.steps.specs.RowLaws.{Along, along-first, along-end, along-stop, along-run}
-use Rattle.steps.specs.CallLaws.{went, halts, steps-way, kept-reads}
+use Rattle.steps.specs.CallLaws.{went, halts, steps-way, kept-short}
 use Rattle.built.specs.Build.{alone}
 use Rattle.row.specs.Fill.{Fillable, RowComes}
 
@@ -84,8 +84,8 @@ module _ {before : ℕ} {w : Walked} {t₀ : List ℕ} {i : ℕ} {s : List ℕ} 
     filling-ready =
         record { kept = f .kept; low = f .low; inside = omega (arith, f .up); few = f .few; most = omega arith; small = more }
 
-    pub filling-reads : {v : List ℕ} → v ≡ numbersAt s i → Reads s n v
-    filling-reads loaded = rw loaded (kept-reads i (f .kept) (omega (arith, f .up)))
+    pub filling-reads : {v : List ℕ} → v ≡ numbersAt s i → ReadsShort s n v
+    filling-reads loaded = rw loaded (kept-short i (f .kept) (omega (arith, f .up)))
 
     module _ {v : List ℕ} {edge : ℕ} (loaded : v ≡ numbersAt s i) (e : edge ≡ nextEdgeAll c (vectorOf s n v)) where
       pub edge-on : c < edge

@@ -7,11 +7,12 @@ use mathlib.Core.Bool.{Bool, true, false, cond, _||_}
 use mathlib.Core.List.{List}
 use lib.ListN.{length}
 use Rattle.number.specs.Limits.{capital}
+use Rattle.meaning.specs.declared.Join.the-variants.{Then, Or}
 use Rattle.meaning.specs.Re.{Re, size, isNothing}
 use Rattle.meaning.specs.Normal.{gathered, alt}
 use Rattle.meaning.specs.Limited.{short, fit}
 use Rattle.meaning.specs.Limited.Fit.{Long, Fits}
-use Rattle.meaning.specs.SizeLaws.{short-members, short-spine}
+use Rattle.meaning.specs.SizeLaws.{short-members}
 use Rattle.book.specs.declared.Node.{Node}
 use Rattle.book.specs.declared.Node.the-variants.{Nothing, Empty, Range, Cat, Alt, Star, Either}
 use Rattle.book.specs.Book.{takes}
@@ -23,8 +24,8 @@ use Rattle.term.specs.Nodes.{Pushed}
 use Rattle.term.specs.Counts.{Countable}
 use Rattle.term.specs.CellLaws.{grown-trans, grown-term, makes-more, makes-as, makes-after}
 use Rattle.normal.specs.declared.Built.{Built}
-use Rattle.normal.specs.Asked.{Links}
-use Rattle.choice.specs.Asked.{members, mostMembers, altCells, Choices}
+use Rattle.normal.specs.Asked.{members, mostMembers, Links}
+use Rattle.choice.specs.Asked.{altCells, Sides}
 use Rattle.choice.specs.Builds.{Alts}
 use Rattle.normal.specs.AnswerLaws.{made-counts}
 use Rattle.normal.specs.ChainLaws.{cat-few}
@@ -42,7 +43,7 @@ module _ {s s1 s2 : List ℕ} {top second third x : ℕ} (room : Room s top eith
   letter-small : term s2 second ≡ small x
   letter-small = q .makes .is
 
-  pub letters-ask : Choices s2 third top second
+  pub letters-ask : Sides Or s2 third top second
   unfolding gathered size
   letters-ask =
       record {
@@ -71,7 +72,7 @@ module _ {s s1 s2 : List ℕ} {top second third x : ℕ} (room : Room s top eith
 -- ---- a node's parts
 
 module _ {n : Node} {s : List ℕ} {top a b : ℕ} (o : Operands n s top a b) where
-  pub node-within : (m : Node) → n ≡ m → Within m
+  pub node-within : (m : Node) → n ≡ m → Within (o .version) m
   node-within m e = rw e at (o .good)
 
   pub node-room : top < length s
@@ -87,10 +88,10 @@ module _ {n : Node} {s : List ℕ} {top a b : ℕ} (o : Operands n s top a b) wh
         sound = o .sound;
         left = x .0 .low;
         right = x .1 .low;
-        room = omega (arith, o .room, short-spine (term s a) (x .0 .is-short));
+        room = omega (arith, o .room, short-members Then (term s a) (x .0 .is-short));
       }
 
-  pub alt-asks : n ≡ Alt → Choices s top a b
+  pub alt-asks : n ≡ Alt → Sides Or s top a b
   alt-asks e =
       let x = both (rw e (omega arith)) in
       record {
@@ -101,7 +102,7 @@ module _ {n : Node} {s : List ℕ} {top a b : ℕ} (o : Operands n s top a b) wh
         right-shape = x .1 .in-shape;
         left-short = x .0 .is-short;
         right-short = x .1 .is-short;
-        room = omega (arith, o .room, short-members (term s a) (x .0 .is-short), short-members (term s b) (x .1 .is-short));
+        room = omega (arith, o .room, short-members Or (term s a) (x .0 .is-short), short-members Or (term s b) (x .1 .is-short));
       }
 
   pub star-asks : n ≡ Star → b < top
@@ -115,15 +116,15 @@ module _ {n : Node} {s : List ℕ} {top a b : ℕ} (o : Operands n s top a b) wh
       go Nothing q = omega arith
       go Empty q = omega arith
       go (Range lo hi) q = omega arith
-      go Cat q = omega (arith, cat-few (term s a) (term s b), short-spine (term s a) (q .below (omega arith) .is-short))
+      go Cat q = omega (arith, cat-few (term s a) (term s b), short-members Then (term s a) (q .below (omega arith) .is-short))
       go Alt q =
           let x = q .below (omega arith) in
           let y = q .first (omega arith) in
           omega (
             arith,
             alt-few (term s a) (term s b) (x .in-shape) (y .in-shape),
-            short-members (term s a) (x .is-short),
-            short-members (term s b) (y .is-short),
+            short-members Or (term s a) (x .is-short),
+            short-members Or (term s b) (y .is-short),
           )
       go Star q = omega arith
       go (Either x) q = omega arith
@@ -147,11 +148,11 @@ fit-short r v = go (short r)
     go true e = refl
     go false e = absurd (let z : _≡_ {A = ℕ} 0 1 = cc in omega arith)
 
-alt-cells : (a b : Re) → altCells a b ≤ members (alt a b)
+alt-cells : (a b : Re) → altCells a b ≤ members Or (alt a b)
 unfolding altCells
 alt-cells a b = go (isNothing a || isNothing b)
   where
-    go : (t : Bool) → cond t 0 (members (alt a b) - 1) ≤ members (alt a b)
+    go : (t : Bool) → cond t 0 (members Or (alt a b) - 1) ≤ members Or (alt a b)
     go true = omega arith
     go false = omega arith
 
@@ -164,9 +165,9 @@ node-cells {n} {s} {top} {a} {b} v = go n
     go Nothing o e = omega arith
     go Empty o e = omega arith
     go (Range lo hi) o e = omega arith
-    go Cat o e = omega (arith, cat-few (term s a) (term s b), short-spine (term s a) (o .below (omega arith) .is-short))
+    go Cat o e = omega (arith, cat-few (term s a) (term s b), short-members Then (term s a) (o .below (omega arith) .is-short))
     go Alt o e =
         let x = alt (term s a) (term s b) in
-        omega (arith, alt-cells (term s a) (term s b), short-members x (fit-short x v e))
+        omega (arith, alt-cells (term s a) (term s b), short-members Or x (fit-short x v e))
     go Star o e = omega arith
     go (Either x) o e = omega arith

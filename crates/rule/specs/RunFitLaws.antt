@@ -97,29 +97,30 @@ some-alone (here a es p) e = p
 some-alone (later (here a es p)) e = absurd (omega arith)
 some-alone (later (later o)) e = absurd (omega arith)
 
-some-run : (ns : List Node) {es : List Re} (terms : ℕ) → Leaves terms ns → length es ≡ terms → Some es → normalFit (top (runNodes ns es)) ≡ Long
+some-run : (v : ℕ) (ns : List Node) {es : List Re} (terms : ℕ) → Leaves v terms ns → length es ≡ terms → Some es
+    → normalFit (top (runNodes ns es)) ≡ Long
 unfolding runNodes
-some-run [] terms h e o = some-alone o (e ∙ h)
-some-run (n ∷ ns) {es} terms h e o =
+some-run v [] terms h e o = some-alone o (e ∙ h)
+some-run v (n ∷ ns) {es} terms h e o =
     let enough : takes n ≤ length es = omega (arith, h .1) in
     let after : length (stacked n es) ≡ terms - takes n + 1 = rw (← e) (stacked-length n es enough) in
-    some-run ns (terms - takes n + 1) (h .2) after (some-stacked n o enough)
+    some-run v ns (terms - takes n + 1) (h .2) after (some-stacked n o enough)
 
 each-alone : {es vs : List Re} → Each es vs → length es ≡ 1 → Fits (top vs) ≡ normalFit (top es)
 each-alone none e = absurd (omega arith)
 each-alone (more p ps) e = sym p
 
-run-fits : (ns : List Node) {es vs : List Re} (terms : ℕ) → Leaves terms ns → length es ≡ terms → Each es vs
+run-fits : (v : ℕ) (ns : List Node) {es vs : List Re} (terms : ℕ) → Leaves v terms ns → length es ≡ terms → Each es vs
     → runFit ns vs ≡ normalFit (top (runNodes ns es))
 unfolding runNodes runFit
-run-fits [] terms h e ps = each-alone ps (e ∙ h)
-run-fits (n ∷ ns) {es} {vs} terms h e ps =
+run-fits v [] terms h e ps = each-alone ps (e ∙ h)
+run-fits v (n ∷ ns) {es} {vs} terms h e ps =
     let enough : takes n ≤ length es = omega (arith, h .1) in
     let after : length (stacked n es) ≡ terms - takes n + 1 = rw (← e) (stacked-length n es enough) in
     let parts = stacked-is n es enough in
     go (made n (second vs) (top vs)) (made-is n ps enough)
-    (λ p. some-run ns (terms - takes n + 1) (h .2) after (rw parts (here _ _ p)))
-    (λ v p. run-fits ns (terms - takes n + 1) (h .2) after (rw parts (more p (each-drop (takes n) ps))))
+    (λ p. some-run v ns (terms - takes n + 1) (h .2) after (rw parts (here _ _ p)))
+    (λ w p. run-fits v ns (terms - takes n + 1) (h .2) after (rw parts (more p (each-drop (takes n) ps))))
   where
     go : (m : Fit) → normalFit (top (stacked n es)) ≡ m
         → (normalFit (top (stacked n es)) ≡ Long → normalFit (top (runNodes ns (stacked n es))) ≡ Long)
@@ -129,8 +130,8 @@ run-fits (n ∷ ns) {es} {vs} terms h e ps =
     go (Fits v) p long fits = fits v p
 
 -- the nodes of a valid rule make the limited normal form of its expression
-pub run-fit : (r : Rule) → ValidRule r → runFit (r .nodes) [] ≡ normalFit (expression r)
-run-fit r h = run-fits (r .nodes) 0 (h .leaves) refl none
+pub run-fit : (v : ℕ) (r : Rule) → ValidRule v r → runFit (r .nodes) [] ≡ normalFit (expression r)
+run-fit v r h = run-fits v (r .nodes) 0 (h .leaves) refl none
 
 -- ---- what is made is in normal form and short
 

@@ -1,11 +1,11 @@
 -- What the code that works off a rule's nodes asks and answers: the rule, the stack of cells, and how many cells the rest may use.
 -- The contracts of this crate are stated with these.
-use Prim.Native.Nat.{ℕ, zero, suc, _+_, _-_, _*_, _/_, _<_, _≤_}
+use Prim.Native.Nat.{ℕ, _+_, _-_, _*_, _/_, _<_, _≤_}
 use mathlib.Core.Path.{_≡_}
 use mathlib.Core.Bool.{true}
-use mathlib.Core.List.{List, [], _∷_, _++_}
+use mathlib.Core.List.{List, [], _++_}
 use lib.ListN.{length, getD, drop}
-use Rattle.number.specs.Limits.{version, nodes, workCells, scratch}
+use Rattle.number.specs.Limits.{nodes, workCells, scratch}
 use Rattle.number.specs.Refused.{Answer}
 use Rattle.number.specs.Refused.Answer.{got, refused}
 use Rattle.meaning.specs.Re.{Re}
@@ -15,16 +15,17 @@ use Rattle.meaning.specs.Shape.{InShape}
 use Rattle.book.specs.declared.Node.{Node}
 use Rattle.book.specs.declared.Node.the-variants.{Nothing, Empty, Range, Cat, Alt, Star, Either}
 use Rattle.book.specs.Book.{Book, takes, writeNodes}
-use Rattle.book.specs.Reads.{readNodes, readBook}
+use Rattle.book.specs.Reads.{moreNodes, readBook}
 use Rattle.book.specs.Valid.{Within, Leaves}
 use Rattle.book.specs.Expression.{expression}
 use Rattle.book.specs.Places.{ruleOf}
 use Rattle.term.specs.Cells.{term, Sound}
 use Rattle.term.specs.Area.{pending, Room, Makes}
+use Rattle.term.specs.Places.{termsAt}
 use Rattle.normal.specs.declared.Built.{Built}
 use Rattle.normal.specs.declared.Made.{Made}
-use Rattle.normal.specs.Asked.{catCells}
-use Rattle.choice.specs.Asked.{mostMembers, altCells}
+use Rattle.normal.specs.Asked.{mostMembers, catCells}
+use Rattle.choice.specs.Asked.{altCells}
 use Rattle.normal.specs.Made.{MadeBy}
 use Rattle.rule.specs.RunFit.{large, small, nodeTerm, made, runFit}
 
@@ -76,11 +77,12 @@ nodeCells (Either x) a b = 3
 abbrev pub nodeRoom : ℕ
 nodeRoom = 2 * mostMembers
 
--- a node and the two numbers on top of the stack, of which those that it takes are items
+-- a node of some version's books and the two numbers on top of the stack, of which those that it takes are items
 pub record Operands (n : Node) (s : List ℕ) (top a b : ℕ) : Type 0 where
   pub sound : Sound s top
   pub room : Room s top nodeRoom
-  pub good : Within n
+  pub version : ℕ
+  pub good : Within version n
   pub below : 2 ≤ takes n → Item s top a
   pub first : 1 ≤ takes n → Item s top b
 
@@ -95,11 +97,11 @@ NodeMade n s top a b s′ r = MadeBy s top s′ r (made n (term s a) (term s b))
 
 -- ---- the nodes that are left
 
--- so many nodes stand at a place, and they leave one term where so many terms stand
-pub record Standing (file : List ℕ) (at left terms : ℕ) : Type 0 where
+-- so many nodes of a book of version v stand at a place, and they leave one term where so many terms stand
+pub record Standing (file : List ℕ) (v at left terms : ℕ) : Type 0 where
   pub ns : List Node
   pub many : length ns ≡ left
-  pub leaves : Leaves terms ns
+  pub leaves : Leaves v terms ns
   pub rest : List ℕ
   pub stands : drop at file ≡ writeNodes ns ++ rest
 
@@ -107,13 +109,12 @@ abbrev pub nodesRead : Answer (List Node) → List Node
 nodesRead (got ns after) = ns
 nodesRead (refused r) = []
 
-abbrev pub nodesLeft : List ℕ → ℕ → ℕ → ℕ → List Node
-nodesLeft file at left terms = nodesRead (readNodes file version left terms at)
+abbrev pub nodesLeft : List ℕ → ℕ → ℕ → ℕ → ℕ → List Node
+nodesLeft file v at left terms = nodesRead (moreNodes file v left terms at)
 
 -- the terms of a stack, the top one first; two spare places stand below
-unfoldable pub stackOf : List ℕ → List ℕ → ℕ → List Re
-stackOf s st zero = []
-stackOf s st (suc h) = term s (getD st (h + 2) 0) ∷ stackOf s st h
+abbrev pub stackOf : List ℕ → List ℕ → ℕ → List Re
+stackOf s st h = termsAt (term s) (drop 2 st) h
 
 -- the cells that the rest may use: an operator of two terms takes at most mostMembers and lowers the stack,
 -- any other node at most three; one that ends the work may take as many again
@@ -121,8 +122,8 @@ abbrev pub restCells : ℕ → ℕ → ℕ
 restCells left h = mostMembers / 2 * (left + h) + 3 * left + nodeRoom
 
 -- the rest can be worked off; a number on the stack, and in a spare place, is a cell's
-pub record Working (file : List ℕ) (at left : ℕ) (s : List ℕ) (top : ℕ) (st : List ℕ) (h : ℕ) : Type 0 where
-  pub standing : Standing file at left h
+pub record Working (file : List ℕ) (v at left : ℕ) (s : List ℕ) (top : ℕ) (st : List ℕ) (h : ℕ) : Type 0 where
+  pub standing : Standing file v at left h
   pub sound : Sound s top
   pub room : Room s top (restCells left h + pending)
   pub places : h + left ≤ nodes
@@ -130,5 +131,5 @@ pub record Working (file : List ℕ) (at left : ℕ) (s : List ℕ) (top : ℕ) 
   pub small : (i : ℕ) → i < nodes + 2 → getD st i 0 < workCells
   pub items : (i : ℕ) → i < h → Item s top (getD st (i + 2) 0)
 
-abbrev pub Worked : List ℕ → ℕ → ℕ → List ℕ → ℕ → List ℕ → ℕ → List ℕ → Made → Type 0
-Worked file at left s top st h s′ r = MadeBy s top s′ r (runFit (nodesLeft file at left h) (stackOf s st h)) (restCells left h)
+abbrev pub Worked : List ℕ → ℕ → ℕ → ℕ → List ℕ → ℕ → List ℕ → ℕ → List ℕ → Made → Type 0
+Worked file v at left s top st h s′ r = MadeBy s top s′ r (runFit (nodesLeft file v at left h) (stackOf s st h)) (restCells left h)

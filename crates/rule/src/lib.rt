@@ -11,7 +11,6 @@ use normal::Built;
 use normal::Made;
 use number::limits::CAPITAL;
 use number::limits::NODES;
-use number::limits::VERSION;
 use term::Term;
 
 // The choice of a letter's two forms, the capital first.
@@ -63,6 +62,7 @@ pub fn rule_term(book: &[u8], rule: usize, cells: &mut [u64], top: usize) -> Mad
     ensures { λ r. ⌜ RuleMade (now (book .entry)) rule (now (cells .entry)) top (now (cells .exit)) r ⌝ }
 {
     let place = places::rule_place(book, rule);
+    let version = place.version;
     let mut stack = [0u16; NODES + 2];
     let mut height: usize = 0;
     let mut at = place.at;
@@ -71,7 +71,7 @@ pub fn rule_term(book: &[u8], rule: usize, cells: &mut [u64], top: usize) -> Mad
     while 0 < left {
         let a = stack[height] as usize;
         let b = stack[height + 1] as usize;
-        let NodeRead::At(node, next) = book::read_node(book, at, VERSION) else {
+        let NodeRead::At(node, next) = book::read_node(book, at, version) else {
             return Made::Long;
         };
         let Made::Term(root, above) = node_term(cells, free, node, a, b) else {

@@ -24,7 +24,7 @@ fn first_differing<'a>(cells: &'a [u64], n: usize, count: usize, labels: &'a [u8
 {
     let mut k: usize = 1;
     while k < count {
-        let by_book = vector::label_of(cells, vector::load(cells, k), n);
+        let by_book = vector::label_of(cells, vector::load(cells, k), 0, n);
         let state = pair::state_of(cells[SHEETS_AT + k] as usize);
         let by_table = labels[state] as usize;
         if by_book != by_table {

@@ -1,25 +1,22 @@
--- Vector 0 of a book in the work area: what the code asks, and what it leaves.
--- Begun says how far it has come after the first rules, First where all are in the pool.
-use Prim.Native.Nat.{ℕ, _*_, _≤_}
+-- Vector 0 in the work area, book by book: what the code asks, and what it leaves.
+-- What has come of a vector is told by its terms; the rules of one more book are put behind those before.
+use Prim.Native.Nat.{ℕ}
 use mathlib.Core.Path.{_≡_}
 use mathlib.Core.Bool.{true, false}
 use mathlib.Core.List.{List, [], _++_}
-use lib.ListN.{length, getD, drop}
-use Rattle.number.specs.Limits.{treeNodes, workCells}
+use lib.ListN.{length}
 use Rattle.number.specs.Refused.{Answer}
 use Rattle.number.specs.Refused.Answer.{got, refused}
 use Rattle.meaning.specs.Re.{Re}
 use Rattle.book.specs.Book.{Book}
 use Rattle.book.specs.Reads.{readBook}
 use Rattle.book.specs.Expression.{meant}
-use Rattle.pool.specs.Pooled.{termsOf, Pool}
-use Rattle.walk.specs.Vectors.{Vector, normalised}
+use Rattle.pool.specs.Index.{Indexed}
+use Rattle.walk.specs.Vectors.{Vector}
 use Rattle.walk.specs.Vectors.Vector.{TooLong, Terms}
-use Rattle.walk.specs.Parts.{withVector}
 use Rattle.vector.specs.declared.Derived.{Derived}
-use Rattle.vector.specs.Layout.{nothingCell, workLength}
-use Rattle.vector.specs.Vectors.{vectorOf, Numbers}
-use Rattle.vector.specs.Memory.{Shaped, Kept}
+use Rattle.vector.specs.Vectors.{vectorOf}
+use Rattle.vector.specs.Memory.{First}
 
 -- the expressions of a book's rules; of a refused book nothing is claimed
 abbrev pub rulesOfRead : Answer Book → List Re
@@ -29,40 +26,21 @@ rulesOfRead (refused r) = []
 abbrev pub rulesIn : List ℕ → List Re
 rulesIn file = rulesOfRead (readBook file)
 
--- the file is a book that is read, with n rules, and the work area is as long as it must be and may be
-pub record Opened (file : List ℕ) (n : ℕ) (s : List ℕ) : Type 0 where
+-- the file is a book that is read, with n rules
+pub record Opened (file : List ℕ) (n : ℕ) : Type 0 where
   pub book : Book
   pub after : ℕ
   pub read : readBook file ≡ got book after
   pub many : length (book .rules) ≡ n
-  pub long : workLength ≤ length s
-  pub small : length s ≤ workCells
 
 -- terms in front of a vector
 abbrev pub fronts : List Re → Vector → Vector
 fronts xs TooLong = TooLong
 fronts xs (Terms ys) = Terms (xs ++ ys)
 
--- the terms of the first i rules are in the pool with all their parts, and nothing else is: w has their numbers.
--- With those of the rules that remain they are the whole vector
-pub record Begun (file : List ℕ) (i : ℕ) (s : List ℕ) (top : ℕ) (w : List ℕ) : Type 0 where
-  pub long : workLength ≤ length s
-  pub small : length s ≤ workCells
-  pub terms : fronts (vectorOf s i w) (normalised (drop i (rulesIn file))) ≡ normalised (rulesIn file)
-  pub pooled : Pool s top (withVector [] (vectorOf s i w))
-  pub shaped : Shaped s top
-  pub numbers : Numbers i top w
-  pub few : top ≤ i * treeNodes
-  pub nothing : getD s nothingCell 0 ≡ 0
-
--- vector 0 stands in the pool with all its parts, and nothing else does; no item is held yet
-pub record First (file : List ℕ) (n : ℕ) (s : List ℕ) (top : ℕ) (w : List ℕ) : Type 0 where
-  pub terms : normalised (rulesIn file) ≡ Terms (vectorOf s n w)
-  pub kept : Kept s n top 0
-  pub numbers : Numbers n top w
-  pub holds : termsOf s top ≡ withVector [] (vectorOf s n w)
-
--- the answer: Long where a rule or a part of one is, else vector 0
-pub record Starts (file : List ℕ) (n : ℕ) (s : List ℕ) (r : Derived) : Type 0 where
-  pub too-long : r .long ≡ true → normalised (rulesIn file) ≡ TooLong
-  pub done : r .long ≡ false → First file n s (r .top) (r .vector .at)
+-- the answer is this vector: Long where it is, else its n terms, with all their parts in a pool that holds nothing else; x is the pool's index
+pub record Starts (u : Vector) (n : ℕ) (x s : List ℕ) (r : Derived) : Type 0 where
+  pub too-long : r .long ≡ true → u ≡ TooLong
+  pub terms : r .long ≡ false → u ≡ Terms (vectorOf s n (r .vector .at))
+  pub first : r .long ≡ false → First s n (r .top) (r .vector .at)
+  pub indexed : r .long ≡ false → Indexed x s (r .top)

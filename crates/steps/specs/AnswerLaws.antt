@@ -27,7 +27,7 @@ use Rattle.walk.specs.StepLaws.{item}
 use Rattle.vector.specs.Layout.{items}
 use Rattle.vector.specs.Vectors.{vectorOf, Numbers}
 use Rattle.vector.specs.PlaceLaws.{vector-length, vector-at}
-use Rattle.vector.specs.Memory.{numbersAt, textOf, itemOf, itemsOf, heldOf, Kept}
+use Rattle.vector.specs.Memory.{numbersAt, textOf, itemOf, itemsOf, heldOf, Kept, First}
 use Rattle.vector.specs.Promises.{Done, Spared, Finds, itemStored}
 use Rattle.vector.specs.MemoryLaws.{
   items-length,
@@ -45,7 +45,7 @@ use Rattle.vector.specs.MemoryLaws.{
   stored-next,
 }
 use Rattle.steps.specs.declared.Stepped.the-variants.{Reached, Stopped}
-use Rattle.steps.specs.Step.{wayOf, Ready, Steps, First, firstItem, Begins}
+use Rattle.steps.specs.Step.{wayOf, Ready, Steps, firstItem, Begins}
 use Rattle.steps.specs.ComeLaws.{come-held, come-full, come-pool, come-new}
 
 held-as : {items items′ : List Item} {terms terms′ : List Re} → items ≡ items′ → terms ≡ terms′

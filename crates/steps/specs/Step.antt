@@ -7,13 +7,11 @@ use lib.ListN.{length}
 use Rattle.number.specs.declared.Refusal.{Refusal}
 use Rattle.number.specs.Limits.{bytes, pool}
 use Rattle.meaning.specs.Re.{Re}
-use Rattle.pool.specs.Pooled.{termsOf}
 use Rattle.pool.specs.Index.{Indexed}
-use Rattle.walk.specs.Parts.{withVector}
 use Rattle.walk.specs.Walk.{Item, nothingHeld, Step, Way, come}
 use Rattle.walk.specs.Walk.Step.{stopped, reached}
 use Rattle.vector.specs.Layout.{items}
-use Rattle.vector.specs.Vectors.{vectorOf, Numbers}
+use Rattle.vector.specs.Vectors.{vectorOf}
 use Rattle.vector.specs.Memory.{heldOf, Kept}
 use Rattle.steps.specs.declared.Stepped.{Stepped}
 use Rattle.steps.specs.declared.Stepped.the-variants.{Reached, Stopped}
@@ -54,12 +52,6 @@ pub record Steps (s : List ℕ) (n before limit : ℕ) (s′ : List ℕ) (w : St
 abbrev pub Follows : List ℕ → List ℕ → Stepped → Type 0
 Follows x s (Reached top count j) = Indexed x s top
 Follows x s (Stopped r) = Unit
-
--- vector 0 stands in the pool with all its parts, and nothing else does
-pub record First (s : List ℕ) (n top : ℕ) (v : List ℕ) : Type 0 where
-  pub kept : Kept s n top 0
-  pub numbers : Numbers n top v
-  pub holds : termsOf s top ≡ withVector [] (vectorOf s n v)
 
 abbrev pub firstItem : List Re → Item
 firstItem v = record { sheet = 0; vector = v; text = [] }

@@ -2,8 +2,8 @@
 // Its tests stand in the order of the refusals: Long; for a new item the limit of items, and then the pool.
 ghost use Rattle.walk.specs.Walk.{step};
 ghost use Rattle.pool.specs.Index.{Indexed};
-ghost use Rattle.vector.specs.Memory.{heldOf};
-ghost use Rattle.steps.specs.Step.{wayOf, Ready, Steps, Follows, First, Begins, Keeps};
+ghost use Rattle.vector.specs.Memory.{heldOf, First};
+ghost use Rattle.steps.specs.Step.{wayOf, Ready, Steps, Follows, Begins, Keeps};
 use number::Refusal;
 use number::limits::POOL;
 use vector::Vector;

@@ -12,7 +12,7 @@ use lib.ListN.{length, getD, take, drop, length-append, length-drop, take-append
 use lib.Seq.{take-append-le, take-at, drop-at, drop-append-seam, length-take-le}
 use Rattle.number.specs.declared.Refusal.{Refusal}
 use Rattle.number.specs.declared.Refusal.the-variants.{Tail, Runs}
-use Rattle.number.specs.Limits.{version, rules, states, bytes}
+use Rattle.number.specs.Limits.{sheetVersion, rules, states, bytes}
 use Rattle.number.specs.Refused.{Answer}
 use Rattle.number.specs.Refused.Answer.{got, refused}
 use Rattle.number.specs.Numbers.{Bytes, field, writeNumber}
@@ -20,7 +20,7 @@ use Rattle.number.specs.Reading.{Reader, onward}
 use Rattle.number.specs.Lists.{drop-one}
 use Rattle.number.specs.FaultLaws.{refused-field, field-fault}
 use Rattle.table.specs.Table.{Table}
-use Rattle.table.specs.Sheet.{Run, readRuns, readStates, sheet, readSheet}
+use Rattle.table.specs.Sheet.{Run, readRuns, moreRuns, readStates, moreStates, sheet, readSheet}
 use Rattle.table.specs.Sheet.{writeRuns, writeRow, writeStates, writeSheet}
 use Rattle.table.specs.Formed.{covered, TurnsFrom, Proper, Below}
 use Rattle.table.specs.Faults.{Begun, InState, stateBytes, Due, Fault}
@@ -119,7 +119,7 @@ sheet-more : (s : ℕ) (labels targets : List ℕ) (l : ℕ) (row : List ℕ) �
     ≡ writeSheet (record { count = s; labels = labels ++ (l ∷ []); targets = targets ++ row })
 unfolding writeSheet
 sheet-more s labels targets l row full size =
-    let u : List ℕ = writeNumber version in
+    let u : List ℕ = writeNumber sheetVersion in
     let v : List ℕ = writeNumber s in
     let w : List ℕ = writeStates labels targets in
     let x : List ℕ = writeNumber l ++ writeRow row in
@@ -187,8 +187,8 @@ module _ (file : List ℕ) (all : Bytes file) (t : Table) (l m : ℕ) where
 
   runs-fault : (rs : List Run) (k sum last at : ℕ) (r : Refusal) → InState t l m rs → length rs + k ≡ m
       → sum ≡ covered rs → last ≡ lastOf (t .count) rs → Stands file 0 (stateBytes t l m rs) at
-      → readRuns file (t .count) k sum last at ≡ refused r → Fault file r
-  unfolding readRuns
+      → moreRuns file (t .count) k sum last at ≡ refused r → Fault file r
+  unfolding moreRuns
   runs-fault rs zero sum last at r i size total end p e =
       refused-past (ltb sum bytes) (Runs at) at _ e
       (λ less same. low t l m rs (drop at file) i (omega arith) (omega (arith, ltb-true sum bytes less)) (p .here)
@@ -219,7 +219,7 @@ module _ (file : List ℕ) (all : Bytes file) (t : Table) (l m : ℕ) where
       (rw is at (target-told .stands)) q)
       λ other e₄.
       let run : Run = record { len = len; target = target } in
-      refused-onward (readRuns file s k (sum + len) target far) e₄
+      refused-onward (moreRuns file s k (sum + len) target far) e₄
       (λ stop. runs-fault (rs ++ (run ∷ [])) k (sum + len) target far r
       (state-more t l m rs run i (len-told .low) room small (λ same. eqb-false target last other (same ∙ sym end)))
       (omega (arith, length-append rs (run ∷ [])))
@@ -233,8 +233,8 @@ module _ (file : List ℕ) (all : Bytes file) (s : ℕ) (some : 1 ≤ s) (most :
   states-fault : (k : ℕ) (labels targets : List ℕ) (at : ℕ) (r : Refusal) → length labels + k ≡ s
       → length targets ≡ length labels * bytes → Each (λ l. l ≤ rules) labels → Each (λ t. t < s) targets
       → Stands file 0 (writeSheet (record { count = s; labels = labels; targets = targets })) at
-      → readStates file s k at ≡ refused r → Fault file r
-  unfolding readStates writeSheet writeRuns covered lastOf
+      → moreStates file s k at ≡ refused r → Fault file r
+  unfolding moreStates writeSheet writeRuns covered lastOf
   states-fault zero labels targets at r size full label target p e = absurd (clash (sym e))
   states-fault (suc k) labels targets at r size full label target p e =
       let t : Table = record { count = s; labels = labels; targets = targets } in
@@ -259,12 +259,12 @@ module _ (file : List ℕ) (all : Bytes file) (s : ℕ) (some : 1 ≤ s) (most :
         below = tt;
         fits = omega arith;
       } in
-      refused-onward (readRuns file s m 0 s far) e₂
+      refused-onward (readRuns file s m far) e₂
       (λ stop. runs-fault file all t l m [] m 0 s far r none (omega arith) refl refl
       (stands-both file 0 far far _ _ (stands-both file 0 mid far _ _ labelled (count-told .stands)) (stands-none file far)) stop)
       λ row then readRow e₃.
       let row-told : RowRead file s mid row then = row-back file all s mid m far row then some readCount readRow in
-      refused-onward (readStates file s k then) e₃
+      refused-onward (moreStates file s k then) e₃
       (λ stop. states-fault k (labels ++ (l ∷ [])) (targets ++ row) then r
       (omega (arith, length-append labels (l ∷ [])))
       (omega (arith, length-append labels (l ∷ []), length-append targets row, row-told .full))
@@ -277,17 +277,17 @@ module _ (file : List ℕ) (all : Bytes file) (s : ℕ) (some : 1 ≤ s) (most :
 sheet-fault : (file : List ℕ) → Bytes file → (r : Refusal) → readSheet file ≡ refused r → Fault file r
 unfolding sheet writeSheet writeStates
 sheet-fault file all r e =
-    refused-onward (field file version version 0) e
-    (λ stop. number-fault file all _ version version 0 r dueVersion (stands-none file 0) stop)
+    refused-onward (field file sheetVersion sheetVersion 0) e
+    (λ stop. number-fault file all _ sheetVersion sheetVersion 0 r dueVersion (stands-none file 0) stop)
     λ v mid readVersion e₁.
-    let version-told : FieldRead file version version 0 v mid = field-back file all version version 0 v mid readVersion in
-    let one : v ≡ version = omega (arith, version-told .low, version-told .high) in
-    let versioned : Stands file 0 (writeNumber version) mid = rw one at (version-told .stands) in
+    let version-told : FieldRead file sheetVersion sheetVersion 0 v mid = field-back file all sheetVersion sheetVersion 0 v mid readVersion in
+    let one : v ≡ sheetVersion = omega (arith, version-told .low, version-told .high) in
+    let versioned : Stands file 0 (writeNumber sheetVersion) mid = rw one at (version-told .stands) in
     refused-onward (field file 1 states mid) e₁
     (λ stop. number-fault file all _ 1 states mid r dueCount versioned stop)
     λ s far readCount e₂.
     let count-told : FieldRead file 1 states mid s far = field-back file all 1 states mid s far readCount in
-    refused-onward (readStates file s s far) e₂
+    refused-onward (readStates file s far) e₂
     (λ stop. states-fault file all s (count-told .low) (count-told .high) s [] [] far r (omega arith) (omega arith)
     (each-none (λ l. l ≤ rules)) (each-none (λ t. t < s))
     (stands-both file 0 mid far _ _ versioned (stands-both file mid far far _ _ (count-told .stands) (stands-none file far))) stop)
@@ -321,8 +321,8 @@ module _ (file : List ℕ) where
 
   runs-on : (s : ℕ) (rs : List Run) (k sum last at next : ℕ) (r : Refusal) → s ≤ states → Proper rs → TurnsFrom last rs → Below s rs
       → sum + covered rs ≤ bytes → Stands file at (writeRuns rs) next
-      → readRuns file s k (sum + covered rs) (lastOf last rs) next ≡ refused r → readRuns file s (length rs + k) sum last at ≡ refused r
-  unfolding readRuns writeRuns covered lastOf
+      → moreRuns file s k (sum + covered rs) (lastOf last rs) next ≡ refused r → moreRuns file s (length rs + k) sum last at ≡ refused r
+  unfolding moreRuns writeRuns covered lastOf
   runs-on s [] k sum last at next r most proper turns below fits p e =
       let place : next ≡ at = omega (arith, p .after) in
       let count : 0 + k ≡ k = omega arith in
@@ -339,7 +339,7 @@ module _ (file : List ℕ) where
       field-stands file (x .target) 0 (s - 1) mid (mid + length w) (omega (arith, below .0)) (omega arith) (omega (arith, below .0))
       (stands-front file mid next w (writeRuns rs) q) in
       let total : sum + (x .len + covered rs) ≡ sum + x .len + covered rs = omega arith in
-      let readRest : readRuns file s (length rs + k) (sum + x .len) (x .target) (mid + length w) ≡ refused r =
+      let readRest : moreRuns file s (length rs + k) (sum + x .len) (x .target) (mid + length w) ≡ refused r =
       runs-on s rs k (sum + x .len) (x .target) (mid + length w) next r most (proper .2) (proper .1) (below .1) (omega arith)
       (stands-back file mid next w (writeRuns rs) q) (rw total at e) in
       let count : suc (length rs) + k ≡ suc (length rs + k) = omega arith in
@@ -348,8 +348,8 @@ module _ (file : List ℕ) where
 
   states-on : (s : ℕ) (labels targets : List ℕ) (k at next : ℕ) (r : Refusal) → s ≤ states → length targets ≡ length labels * bytes
       → Each (λ l. l ≤ rules) labels → Each (λ t. t < s) targets → Stands file at (writeStates labels targets) next
-      → readStates file s k next ≡ refused r → readStates file s (length labels + k) at ≡ refused r
-  unfolding readStates writeStates
+      → moreStates file s k next ≡ refused r → moreStates file s (length labels + k) at ≡ refused r
+  unfolding moreStates writeStates
   states-on s [] targets k at next r most full label target p e =
       let place : next ≡ at = omega (arith, p .after) in
       let count : 0 + k ≡ k = omega arith in
@@ -367,7 +367,7 @@ module _ (file : List ℕ) where
       (stands-front file at next u (v ++ w) p) in
       let readRow = row-stands file s row mid (mid + length v) most (length-take-le bytes targets (omega arith))
       (each-take (λ t. t < s) bytes targets target) (stands-front file mid next v w q) in
-      let readRest : readStates file s (length ls + k) (mid + length v) ≡ refused r =
+      let readRest : moreStates file s (length ls + k) (mid + length v) ≡ refused r =
       states-on s ls more k (mid + length v) next r most (omega (arith, length-drop bytes targets))
       (each-tail (λ x. x ≤ rules) l ls label) (each-drop (λ t. t < s) bytes targets target) (stands-back file mid next v w q) e in
       let count : suc (length ls) + k ≡ suc (length ls + k) = omega arith in
@@ -375,24 +375,24 @@ module _ (file : List ℕ) where
 
   -- the version and the count of a table that was written at the file's start
   head-read : (t : Table) (next : ℕ) → 1 ≤ t .count → t .count ≤ states → Stands file 0 (writeSheet t) next
-      → let mid : ℕ = 0 + length (writeNumber version) in let far : ℕ = mid + length (writeNumber (t .count)) in
-      (field file version version 0 ≡ got version mid) × (field file 1 states mid ≡ got (t .count) far)
+      → let mid : ℕ = 0 + length (writeNumber sheetVersion) in let far : ℕ = mid + length (writeNumber (t .count)) in
+      (field file sheetVersion sheetVersion 0 ≡ got sheetVersion mid) × (field file 1 states mid ≡ got (t .count) far)
       × Stands file far (writeStates (t .labels) (t .targets)) next
   unfolding writeSheet
   head-read t next some most p =
-      let u : List ℕ = writeNumber version in
+      let u : List ℕ = writeNumber sheetVersion in
       let v : List ℕ = writeNumber (t .count) in
       let w : List ℕ = writeStates (t .labels) (t .targets) in
       let mid : ℕ = 0 + length u in
       let q : Stands file mid (v ++ w) next = stands-back file 0 next u (v ++ w) p in (
-        field-stands file version version version 0 mid (omega arith) (omega arith) (omega arith) (stands-front file 0 next u (v ++ w) p),
+        field-stands file sheetVersion sheetVersion sheetVersion 0 mid (omega arith) (omega arith) (omega arith) (stands-front file 0 next u (v ++ w) p),
         field-stands file (t .count) 1 states mid (mid + length v) (omega arith) some most (stands-front file mid next v w q),
         stands-back file mid next v w q,
       )
 
   -- a refusal at the states that are missing
   begun-refused : (t : Table) (k next : ℕ) (r : Refusal) → Begun t → length (t .labels) + k ≡ t .count → Stands file 0 (writeSheet t) next
-      → readStates file (t .count) k next ≡ refused r → readSheet file ≡ refused r
+      → moreStates file (t .count) k next ≡ refused r → readSheet file ≡ refused r
   begun-refused t k next r b size p e =
       let (readVersion, readCount, w) = head-read t next (b .some) (b .most) p in
       let rows = states-on (t .count) (t .labels) (t .targets) k _ next r (b .most) (b .filled) (b .label) (b .target) w e in
@@ -405,8 +405,8 @@ module _ (file : List ℕ) where
   -- a refusal at the runs that are missing
   state-refused : (t : Table) (l m : ℕ) (rs : List Run) (k next : ℕ) (r : Refusal) → InState t l m rs → length rs + k ≡ m
       → Stands file 0 (stateBytes t l m rs) next
-      → readRuns file (t .count) k (covered rs) (lastOf (t .count) rs) next ≡ refused r → readSheet file ≡ refused r
-  unfolding readStates
+      → moreRuns file (t .count) k (covered rs) (lastOf (t .count) rs) next ≡ refused r → readSheet file ≡ refused r
+  unfolding moreStates
   state-refused t l m rs k next r i size p e =
       let s : ℕ = t .count in
       let b : Begun t = i .begun in
@@ -428,12 +428,12 @@ module _ (file : List ℕ) where
   -- a number that is due and is not there
   due-refused : {w : List ℕ} {lo hi : ℕ} (at : ℕ) (r : Refusal) → Due w lo hi → Stands file 0 w at
       → field file lo hi at ≡ refused r → readSheet file ≡ refused r
-  unfolding readStates readRuns
+  unfolding moreStates moreRuns
   due-refused at r dueVersion p e =
       let place : at ≡ 0 = omega (arith, p .after) in
       sheet-no-version file states (rw place at e)
   due-refused at r dueCount p e =
-      sheet-no-count file states (field-stands file version version version 0 at (omega arith) (omega arith) (omega arith) p) e
+      sheet-no-count file states (field-stands file sheetVersion sheetVersion sheetVersion 0 at (omega arith) (omega arith) (omega arith) p) e
   due-refused at r (dueLabel t b) p e =
       begun-refused t (suc (t .count - length (t .labels) - 1)) at r b (missing t b) p (simp e)
   due-refused at r (dueRuns t l b small) p e =
@@ -451,7 +451,7 @@ module _ (file : List ℕ) where
       (simp (readLen, le-ltb bytes (covered rs + len) room, e))
 
   fault-refused : (r : Refusal) → Fault file r → readSheet file ≡ refused r
-  unfolding readRuns
+  unfolding moreRuns
   fault-refused r (number w rest lo hi due same f) =
       due-refused (length w) r due (begins w rest same) (field-fault file lo hi (length w) r f)
   fault-refused r (passes t l m rs len rest i less small over same is) =
@@ -461,7 +461,7 @@ module _ (file : List ℕ) where
       let readLen = field-stands file len 1 bytes _ _ (omega arith) some small (stands-back file 0 _ head (writeNumber len) p) in
       let k : ℕ = suc (m - length rs - 1) in
       let place : 0 + length head ≡ length head = omega arith in
-      let stops : readRuns file (t .count) k (covered rs) (lastOf (t .count) rs) (0 + length head) ≡ refused (Runs (0 + length head)) =
+      let stops : moreRuns file (t .count) k (covered rs) (lastOf (t .count) rs) (0 + length head) ≡ refused (Runs (0 + length head)) =
       simp (readLen, lt-ltb bytes (covered rs + len) over) in
       state-refused t l m rs k _ r i (omega arith) (stands-front file 0 _ head (writeNumber len) p)
       (stops ∙ ap refused (ap Runs place ∙ sym is))
@@ -482,7 +482,7 @@ module _ (file : List ℕ) where
       let place : 0 + length head + length v ≡ length (head ++ v) = omega (arith, length-append head v) in
       let last : eqb (q .target) (lastOf (t .count) rs) ≡ true =
       eq-eqb (q .target) (lastOf (t .count) rs) (sym (last-is (t .count) front q)) in
-      let stops : readRuns file (t .count) k (covered rs) (lastOf (t .count) rs) (0 + length head)
+      let stops : moreRuns file (t .count) k (covered rs) (lastOf (t .count) rs) (0 + length head)
       ≡ refused (Runs (0 + length head + length v)) =
       simp (readLen, le-ltb bytes (covered rs + len) room, rw met at readTarget, last) in
       state-refused t l m rs k _ r i (omega arith) (stands-front file 0 _ head v p₂)

@@ -6,7 +6,7 @@ use mathlib.Core.List.{List, [], _∷_, _++_}
 use lib.ListN.{length, getD}
 use Rattle.number.specs.declared.Refusal.{Refusal}
 use Rattle.number.specs.declared.Refusal.the-variants.{Tail, Runs}
-use Rattle.number.specs.Limits.{version, rules, states, bytes}
+use Rattle.number.specs.Limits.{sheetVersion, rules, states, bytes}
 use Rattle.number.specs.Numbers.{writeNumber}
 use Rattle.number.specs.Faults.{FieldFault}
 use Rattle.table.specs.Table.{Table}
@@ -37,8 +37,8 @@ stateBytes t l m rs = writeSheet t ++ writeNumber l ++ writeNumber m ++ writeRun
 
 -- behind these bytes a number is due, from the first limit to the second: a version, a state count, a label, a run count, a length, a target
 pub data Due : List ℕ → ℕ → ℕ → Type 0 where
-  dueVersion : Due [] version version
-  dueCount : Due (writeNumber version) 1 states
+  dueVersion : Due [] sheetVersion sheetVersion
+  dueCount : Due (writeNumber sheetVersion) 1 states
   dueLabel : (t : Table) → Begun t → Due (writeSheet t) 0 rules
   dueRuns : (t : Table) (l : ℕ) → Begun t → l ≤ rules → Due (writeSheet t ++ writeNumber l) 1 bytes
   dueLength : (t : Table) (l m : ℕ) (rs : List Run) → InState t l m rs → length rs < m → Due (stateBytes t l m rs) 1 bytes

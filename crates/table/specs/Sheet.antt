@@ -6,7 +6,7 @@ use mathlib.Core.List.{List, [], _∷_, _++_}
 use lib.Dec.{ltb, eqb}
 use lib.ListN.{length, take, drop, replicate}
 use Rattle.number.specs.declared.Refusal.the-variants.{Runs}
-use Rattle.number.specs.Limits.{version, rules, states, bytes}
+use Rattle.number.specs.Limits.{sheetVersion, rules, states, bytes}
 use Rattle.number.specs.Refused.{Answer}
 use Rattle.number.specs.Numbers.{readNumber, field, writeNumber}
 use Rattle.number.specs.Reading.{Reader, _>>=_, _>>_, answer, here, refuseIf, end}
@@ -19,37 +19,45 @@ pub record Rows : Type 0 where
 
 module _ (file : List ℕ) where
   -- k runs more of a state, in a sheet of s states: `sum` bytes are covered, `last` is the target of the run before, or s, which is none
-  unfoldable pub readRuns : ℕ → ℕ → ℕ → ℕ → Reader (List ℕ)
-  readRuns s zero sum last = do
+  unfoldable pub moreRuns : ℕ → ℕ → ℕ → ℕ → Reader (List ℕ)
+  moreRuns s zero sum last = do
     after ← here
     refuseIf (ltb sum bytes) (Runs after)
     answer []
-  readRuns s (suc k) sum last = do
+  moreRuns s (suc k) sum last = do
     atLength ← here
     len ← field file 1 bytes
     refuseIf (ltb bytes (sum + len)) (Runs atLength)
     atTarget ← here
     target ← field file 0 (s - 1)
     refuseIf (eqb target last) (Runs atTarget)
-    rest ← readRuns s k (sum + len) target
+    rest ← moreRuns s k (sum + len) target
     answer (replicate len target ++ rest)
 
+  -- the m runs of a state: no byte is covered before the first, and no run stands before it
+  abbrev pub readRuns : ℕ → ℕ → Reader (List ℕ)
+  readRuns s m = moreRuns s m 0 s
+
   -- k states more of a sheet of s states
-  unfoldable pub readStates : ℕ → ℕ → Reader Rows
-  readStates s zero = answer (record { labels = []; targets = [] })
-  readStates s (suc k) = do
+  unfoldable pub moreStates : ℕ → ℕ → Reader Rows
+  moreStates s zero = answer (record { labels = []; targets = [] })
+  moreStates s (suc k) = do
     label ← field file 0 rules
     m ← field file 1 bytes
-    row ← readRuns s m 0 s
-    rest ← readStates s k
+    row ← readRuns s m
+    rest ← moreStates s k
     answer (record { labels = label ∷ rest .labels; targets = row ++ rest .targets })
+
+  -- all states of a sheet of s states
+  abbrev pub readStates : ℕ → Reader Rows
+  readStates s = moreStates s s
 
   -- version, state count, the states; nothing follows. How many states there may be is the reader's limit: a sheet does not tell it
   unfoldable pub sheet : ℕ → Reader Table
   sheet most = do
-    field file version version
+    field file sheetVersion sheetVersion
     s ← field file 1 most
-    rows ← readStates s s
+    rows ← readStates s
     end file
     answer (record { count = s; labels = rows .labels; targets = rows .targets })
 
@@ -62,7 +70,7 @@ module _ (file : List ℕ) where
 
   -- the state count that a file tells: the number behind its version, whatever it is
   abbrev pub countTold : Answer ℕ
-  countTold = (field file version version >> readNumber file) 0
+  countTold = (field file sheetVersion sheetVersion >> readNumber file) 0
 
 -- a run: so many bytes with one target
 pub record Run : Type 0 where
@@ -92,4 +100,4 @@ writeStates [] targets = []
 writeStates (l ∷ ls) targets = writeNumber l ++ (writeRow (take bytes targets) ++ writeStates ls (drop bytes targets))
 
 unfoldable pub writeSheet : Table → List ℕ
-writeSheet t = writeNumber version ++ (writeNumber (t .count) ++ writeStates (t .labels) (t .targets))
+writeSheet t = writeNumber sheetVersion ++ (writeNumber (t .count) ++ writeStates (t .labels) (t .targets))

@@ -6,7 +6,7 @@ use mathlib.Core.Path.{_≡_, sym, ap, _∙_}
 use mathlib.Core.List.{List, [], _∷_, _++_}
 use lib.ListN.{length, take, drop, length-append, length-drop}
 use lib.Seq.{length-take-le}
-use Rattle.number.specs.Limits.{group, twoGroups, threeGroups, version, rules, states, bytes}
+use Rattle.number.specs.Limits.{group, twoGroups, threeGroups, sheetVersion, rules, states, bytes}
 use Rattle.number.specs.Numbers.{Bytes, writeNumber}
 use Rattle.number.specs.NumberLaws.{Written, write-way, width-is}
 use Rattle.number.specs.NumberLaws.Written.{one, two, three}
@@ -66,8 +66,8 @@ states-bytes s (l ∷ ls) targets most full label target =
 pub sheet-bytes : (t : Table) → Formed t → Bytes (writeSheet t)
 unfolding writeSheet
 sheet-bytes t f =
-    each-append byte (writeNumber version) (writeNumber (t .count) ++ writeStates (t .labels) (t .targets))
-    (number-bytes version (omega arith))
+    each-append byte (writeNumber sheetVersion) (writeNumber (t .count) ++ writeStates (t .labels) (t .targets))
+    (number-bytes sheetVersion (omega arith))
     (each-append byte (writeNumber (t .count)) (writeStates (t .labels) (t .targets))
     (number-bytes (t .count) (omega (arith, f .most)))
     (states-bytes (t .count) (t .labels) (t .targets) (f .most)
@@ -145,9 +145,9 @@ sheet-length t f =
     let w : List ℕ = writeStates (t .labels) (t .targets) in
     omega (
       arith,
-      length-append (writeNumber version) (v ++ w),
+      length-append (writeNumber sheetVersion) (v ++ w),
       length-append v w,
-      width-one version (omega arith),
+      width-one sheetVersion (omega arith),
       width-two (t .count) (omega (arith, f .most)),
       f .most,
       f .labelled,

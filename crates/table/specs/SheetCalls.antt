@@ -5,7 +5,6 @@ use native.Mathlib.Omega.{arith}
 use mathlib.Core.Path.{_≡_, refl, sym, ap, _∙_}
 use mathlib.Core.Bool.{true}
 use mathlib.Core.List.{List, _++_}
-use mathlib.Core.Logic.{_↔_}
 use borrow.Author.Tests.{le-ltb}
 use lib.Dec.{ltb}
 use lib.ListN.{length, take, drop, replicate}
@@ -23,24 +22,13 @@ use Rattle.table.specs.Calls.{Filled, Output, cramped, padded, loadRead,
 use Rattle.table.specs.Formed.{Formed, longestSheet}
 use Rattle.table.specs.SheetFormed.{well-formed, formed-well}
 use Rattle.table.specs.SheetLaws.{SheetRead, sheet-read-back, sheet-back}
-use Rattle.table.specs.SheetBytes.{sheet-bytes, sheet-length}
+use Rattle.table.specs.SheetBytes.{sheet-length}
 
 -- a refusal gives nothing
 clash : {r : Refusal} {n : ℕ} → _≡_ {A = Outcome ℕ} (refuses r) (gives n) → ⊥
 clash e = let z : _≡_ {A = ℕ} 0 1 = cc in omega arith
 
 -- ---- files
-
--- what is read is exactly the bytes of formed tables
-pub sheet-exact : (file : List ℕ) (t : Table) (after : ℕ)
-    → (Bytes file × (readSheet file ≡ got t after)) ↔ SheetRead file t after
-sheet-exact file t after = (
-  λ h. sheet-back file (h .0) t after (h .1),
-  λ told. (
-    rw (told .written) at (sheet-bytes t (told .formed)),
-    rw (told .written, ← told .ended) at (sheet-read-back t (told .formed)),
-  ),
-)
 
 -- no two formed tables have one sheet
 pub sheet-one : (t u : Table) → Formed t → Formed u → writeSheet t ≡ writeSheet u → t ≡ u

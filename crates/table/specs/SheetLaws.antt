@@ -10,7 +10,7 @@ use lib.Dec.{ltb, eqb}
 use lib.ListN.{length, take, drop, replicate, length-append, length-drop, take-append-drop, drop-of-length-le}
 use lib.Seq.{take-at, drop-at, drop-length, length-take-le}
 use Rattle.number.specs.declared.Refusal.{Refusal}
-use Rattle.number.specs.Limits.{threeGroups, version, rules, states, bytes}
+use Rattle.number.specs.Limits.{threeGroups, sheetVersion, rules, states, bytes}
 use Rattle.number.specs.Refused.{Answer}
 use Rattle.number.specs.Refused.Answer.{got, refused}
 use Rattle.number.specs.Numbers.{Bytes, field, writeNumber, NumberAt, FieldAt}
@@ -18,7 +18,7 @@ use Rattle.number.specs.Reading.{Reader, onward}
 use Rattle.number.specs.Lists.{drop-past}
 use Rattle.number.specs.NumberLaws.{written-read, field-written, field-read}
 use Rattle.table.specs.Table.{Table}
-use Rattle.table.specs.Sheet.{Rows, Run, readRuns, readStates, sheet, readSheet}
+use Rattle.table.specs.Sheet.{Rows, Run, readRuns, moreRuns, readStates, moreStates, sheet, readSheet}
 use Rattle.table.specs.Sheet.{runsOf, writeRuns, writeRow, writeStates, writeSheet}
 use Rattle.table.specs.Formed.{Formed, expanded, covered, TurnsFrom, Proper, Below}
 use Rattle.table.specs.SheetFormed.{Each, each-none, each-cons, each-tail, each-append, each-take, each-drop}
@@ -104,8 +104,8 @@ module _ (file : List ℕ) where
   -- with `sum` bytes covered before and the target `last` before them, as the reader has it
   runs-stand : (s : ℕ) (rs : List Run) (sum last at next : ℕ) → s ≤ states → Proper rs → TurnsFrom last rs → Below s rs
       → sum + covered rs ≡ bytes → Stands file at (writeRuns rs) next
-      → readRuns file s (length rs) sum last at ≡ got (expanded rs) next
-  unfolding readRuns writeRuns expanded covered
+      → moreRuns file s (length rs) sum last at ≡ got (expanded rs) next
+  unfolding moreRuns writeRuns expanded covered
   runs-stand s [] sum last at next most proper turns below whole p =
       let place : next ≡ at = omega (arith, p .after) in
       rw place (simp (le-ltb sum bytes (omega arith)))
@@ -119,7 +119,7 @@ module _ (file : List ℕ) where
       let readTarget : field file 0 (s - 1) mid ≡ got (r .target) (mid + length w) =
       field-stands (r .target) 0 (s - 1) mid (mid + length w) (omega (arith, below .0)) (omega arith) (omega (arith, below .0))
       (stands-front mid next w (writeRuns rs) q) in
-      let readRest : readRuns file s (length rs) (sum + r .len) (r .target) (mid + length w) ≡ got (expanded rs) next =
+      let readRest : moreRuns file s (length rs) (sum + r .len) (r .target) (mid + length w) ≡ got (expanded rs) next =
       runs-stand s rs (sum + r .len) (r .target) (mid + length w) next most (proper .2) (proper .1) (below .1) (omega arith)
       (stands-back mid next w (writeRuns rs) q) in
       simp (readLen, le-ltb bytes (sum + r .len) (omega arith), readTarget, ne-eqb (r .target) last turns, readRest)
@@ -127,7 +127,7 @@ module _ (file : List ℕ) where
   pub row-stands : (s : ℕ) (row : List ℕ) (at next : ℕ) → s ≤ states → length row ≡ bytes → Each (λ t. t < s) row
       → Stands file at (writeRow row) next
       → let m : ℕ = length (runsOf row) in let mid : ℕ = at + length (writeNumber m) in
-      (field file 1 bytes at ≡ got m mid) × (readRuns file s m 0 s mid ≡ got row next)
+      (field file 1 bytes at ≡ got m mid) × (readRuns file s m mid ≡ got row next)
   unfolding writeRow
   row-stands s row at next most full target p =
       let m : ℕ = length (runsOf row) in
@@ -145,8 +145,8 @@ module _ (file : List ℕ) where
 
   pub states-stand : (s : ℕ) (labels targets : List ℕ) (at next : ℕ) → s ≤ states → length targets ≡ length labels * bytes
       → Each (λ l. l ≤ rules) labels → Each (λ t. t < s) targets → Stands file at (writeStates labels targets) next
-      → readStates file s (length labels) at ≡ got (record { labels = labels; targets = targets }) next
-  unfolding readStates writeStates
+      → moreStates file s (length labels) at ≡ got (record { labels = labels; targets = targets }) next
+  unfolding moreStates writeStates
   states-stand s [] targets at next most full label target p =
       let place : next ≡ at = omega (arith, p .after) in
       let none : targets ≡ [] = no-more targets (omega arith) in
@@ -164,7 +164,7 @@ module _ (file : List ℕ) where
       (stands-front at next u (v ++ w) p) in
       let readRow = row-stands s row mid (mid + length v) most (length-take-le bytes targets (omega arith))
       (each-take (λ t. t < s) bytes targets target) (stands-front mid next v w q) in
-      let readRest : readStates file s (length ls) (mid + length v) ≡ got (record { labels = ls; targets = more }) next =
+      let readRest : moreStates file s (length ls) (mid + length v) ≡ got (record { labels = ls; targets = more }) next =
       states-stand s ls more (mid + length v) next most (omega (arith, length-drop bytes targets))
       (each-tail (λ x. x ≤ rules) l ls label) (each-drop (λ t. t < s) bytes targets target) (stands-back mid next v w q) in
       simp (readLabel, readRow .0, readRow .1, readRest, take-append-drop)
@@ -172,18 +172,18 @@ module _ (file : List ℕ) where
   sheet-stands : (t : Table) (next : ℕ) → Formed t → length file ≤ next → Stands file 0 (writeSheet t) next → readSheet file ≡ got t next
   unfolding sheet writeSheet
   sheet-stands t next f ends p =
-      let u : List ℕ = writeNumber version in
+      let u : List ℕ = writeNumber sheetVersion in
       let v : List ℕ = writeNumber (t .count) in
       let w : List ℕ = writeStates (t .labels) (t .targets) in
       let mid : ℕ = 0 + length u in
       let q : Stands file mid (v ++ w) next = stands-back 0 next u (v ++ w) p in
-      let readVersion : field file version version 0 ≡ got version mid =
-      field-stands version version version 0 mid (omega arith) (omega arith) (omega arith) (stands-front 0 next u (v ++ w) p) in
+      let readVersion : field file sheetVersion sheetVersion 0 ≡ got sheetVersion mid =
+      field-stands sheetVersion sheetVersion sheetVersion 0 mid (omega arith) (omega arith) (omega arith) (stands-front 0 next u (v ++ w) p) in
       let readCount : field file 1 states mid ≡ got (t .count) (mid + length v) =
       field-stands (t .count) 1 states mid (mid + length v) (omega (arith, f .most)) (f .some) (f .most) (stands-front mid next v w q) in
       let rows = states-stand (t .count) (t .labels) (t .targets) (mid + length v) next (f .most)
       (f .filled ∙ ap (λ (n : ℕ). n * bytes) (sym (f .labelled))) (f .label) (f .target) (stands-back mid next v w q) in
-      let readRows : readStates file (t .count) (t .count) (mid + length v) ≡ got (record { labels = t .labels; targets = t .targets }) next =
+      let readRows : readStates file (t .count) (mid + length v) ≡ got (record { labels = t .labels; targets = t .targets }) next =
       rw (f .labelled) at rows in
       simp (readVersion, readCount, readRows, le-ltb next (length file) ends)
 
@@ -243,8 +243,8 @@ module _ (file : List ℕ) (all : Bytes file) where
 
   -- the reader's tests make the runs proper, and its last one says that they cover the row
   runs-back : (s k sum last at : ℕ) (row : List ℕ) (next : ℕ) → 1 ≤ s → sum ≤ bytes
-      → readRuns file s k sum last at ≡ got row next → RunsRead file s k sum last at row next
-  unfolding readRuns writeRuns expanded covered
+      → moreRuns file s k sum last at ≡ got row next → RunsRead file s k sum last at row next
+  unfolding moreRuns writeRuns expanded covered
   runs-back s zero sum last at row next some room e =
       got-past (ltb sum bytes) _ at _ e λ enough done.
       let place : at ≡ next = cc in
@@ -264,7 +264,7 @@ module _ (file : List ℕ) (all : Bytes file) where
       got-past (ltb bytes (sum + len)) _ mid _ e₁ λ fits e₂.
       got-onward (field file 0 (s - 1) mid) e₂ λ target far readTarget e₃.
       got-past (eqb target last) _ far _ e₃ λ other e₄.
-      got-onward (readRuns file s k (sum + len) target far) e₄ λ rest end readRest done.
+      got-onward (moreRuns file s k (sum + len) target far) e₄ λ rest end readRest done.
       let place : end ≡ next = cc in
       let whole-row : row ≡ replicate len target ++ rest = cc in
       let len-told : FieldRead file 1 bytes at len mid = field-back 1 bytes at len mid readLen in
@@ -284,7 +284,7 @@ module _ (file : List ℕ) (all : Bytes file) where
 
   -- proper runs are the runs that would be written
   pub row-back : (s at m mid : ℕ) (row : List ℕ) (next : ℕ) → 1 ≤ s → field file 1 bytes at ≡ got m mid
-      → readRuns file s m 0 s mid ≡ got row next → RowRead file s at row next
+      → readRuns file s m mid ≡ got row next → RowRead file s at row next
   unfolding writeRow
   row-back s at m mid row next some readCount readRow =
       let told : RunsRead file s m 0 s mid row next = runs-back s m 0 s mid row next some (omega arith) readRow in
@@ -296,8 +296,8 @@ module _ (file : List ℕ) (all : Bytes file) where
         stands = rw (same, told .count) (stands-both file at mid next _ _ (number .stands) (told .stands));
       }
 
-  pub states-back : (s k at : ℕ) (rows : Rows) (next : ℕ) → 1 ≤ s → readStates file s k at ≡ got rows next → StatesRead file s k at rows next
-  unfolding readStates writeStates
+  pub states-back : (s k at : ℕ) (rows : Rows) (next : ℕ) → 1 ≤ s → moreStates file s k at ≡ got rows next → StatesRead file s k at rows next
+  unfolding moreStates writeStates
   states-back s zero at rows next some e =
       let place : at ≡ next = cc in
       let none : rows ≡ record { labels = []; targets = [] } = cc in
@@ -312,8 +312,8 @@ module _ (file : List ℕ) (all : Bytes file) where
   states-back s (suc k) at rows next some e =
       got-onward (field file 0 rules at) e λ l mid readLabel e₁.
       got-onward (field file 1 bytes mid) e₁ λ m far readCount e₂.
-      got-onward (readRuns file s m 0 s far) e₂ λ row then readRow e₃.
-      got-onward (readStates file s k then) e₃ λ rest end readRest done.
+      got-onward (readRuns file s m far) e₂ λ row then readRow e₃.
+      got-onward (moreStates file s k then) e₃ λ rest end readRest done.
       let place : end ≡ next = cc in
       let whole : rows ≡ record { labels = l ∷ rest .labels; targets = row ++ rest .targets } = cc in
       let label-told : FieldRead file 0 rules at l mid = field-back 0 rules at l mid readLabel in
@@ -335,16 +335,16 @@ module _ (file : List ℕ) (all : Bytes file) where
   pub sheet-back : (t : Table) (after : ℕ) → readSheet file ≡ got t after → SheetRead file t after
   unfolding sheet writeSheet
   sheet-back t after e =
-      got-onward (field file version version 0) e λ v mid readVersion e₁.
+      got-onward (field file sheetVersion sheetVersion 0) e λ v mid readVersion e₁.
       got-onward (field file 1 states mid) e₁ λ s far readCount e₂.
-      got-onward (readStates file s s far) e₂ λ rows then readRows e₃.
+      got-onward (readStates file s far) e₂ λ rows then readRows e₃.
       got-past (ltb then (length file)) _ then _ e₃ λ ends done.
       let place : then ≡ after = cc in
       let whole : t ≡ record { count = s; labels = rows .labels; targets = rows .targets } = cc in
-      let version-told : FieldRead file version version 0 v mid = field-back version version 0 v mid readVersion in
+      let version-told : FieldRead file sheetVersion sheetVersion 0 v mid = field-back sheetVersion sheetVersion 0 v mid readVersion in
       let count-told : FieldRead file 1 states mid s far = field-back 1 states mid s far readCount in
       let told : StatesRead file s s far rows then = states-back s s far rows then (count-told .low) readRows in
-      let one : v ≡ version = omega (arith, version-told .low, version-told .high) in
+      let one : v ≡ sheetVersion = omega (arith, version-told .low, version-told .high) in
       let all-of-it = stands-whole file then _
       (stands-both file 0 mid then _ _ (rw one at (version-told .stands))
       (stands-both file mid far then _ _ (count-told .stands) (told .stands)))

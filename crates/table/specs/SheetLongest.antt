@@ -6,7 +6,7 @@ use mathlib.Core.Path.{_≡_, refl, sym, ap, _∙_}
 use mathlib.Core.List.{List, [], _∷_, _++_}
 use lib.ListN.{length, replicate, length-append, length-replicate}
 use lib.Seq.{take-at, drop-at}
-use Rattle.number.specs.Limits.{group, twoGroups, version, rules, states, bytes}
+use Rattle.number.specs.Limits.{group, twoGroups, sheetVersion, rules, states, bytes}
 use Rattle.number.specs.Numbers.{writeNumber}
 use Rattle.number.specs.NumberLaws.{width-is}
 use Rattle.number.specs.NumberLaws.Written.{one, two}
@@ -139,9 +139,9 @@ longest-taken =
       long =
           omega (
             arith,
-            length-append (writeNumber version) (writeNumber states ++ rows),
+            length-append (writeNumber sheetVersion) (writeNumber states ++ rows),
             length-append (writeNumber states) rows,
-            width-is version (one (omega arith)),
+            width-is sheetVersion (one (omega arith)),
             width-is states (two (omega arith) (omega arith)),
             states-of-row states row (turns-length bytes group (group + 1)) (row-of-turns group (group + 1) (λ e. omega arith) wide wider),
           );

@@ -9,7 +9,7 @@ use lib.Dec.{ltb}
 use lib.ListN.{length}
 use Rattle.number.specs.declared.Refusal.{Refusal}
 use Rattle.number.specs.declared.Refusal.the-variants.{Tail, Range}
-use Rattle.number.specs.Limits.{version, states}
+use Rattle.number.specs.Limits.{sheetVersion, states}
 use Rattle.number.specs.Refused.{Answer}
 use Rattle.number.specs.Refused.Answer.{got, refused}
 use Rattle.number.specs.Numbers.{Bytes, readNumber, field}
@@ -23,21 +23,21 @@ use Rattle.table.specs.SheetLaws.{SheetRead, clash, got-onward, got-past
 
 -- the ways of reading a whole sheet, whatever the reader's limit
 module _ (file : List ℕ) (most : ℕ) where
-  pub sheet-no-version : {q : Refusal} → field file version version 0 ≡ refused q → readSheetTo file most ≡ refused q
+  pub sheet-no-version : {q : Refusal} → field file sheetVersion sheetVersion 0 ≡ refused q → readSheetTo file most ≡ refused q
   unfolding sheet
   sheet-no-version e = simp e
 
-  module _ {v at1 : ℕ} (version-got : field file version version 0 ≡ got v at1) where
+  module _ {v at1 : ℕ} (version-got : field file sheetVersion sheetVersion 0 ≡ got v at1) where
     pub sheet-no-count : {q : Refusal} → field file 1 most at1 ≡ refused q → readSheetTo file most ≡ refused q
     unfolding sheet
     sheet-no-count e = simp (version-got, e)
 
     module _ {s at2 : ℕ} (count-got : field file 1 most at1 ≡ got s at2) where
-      pub sheet-no-states : {q : Refusal} → readStates file s s at2 ≡ refused q → readSheetTo file most ≡ refused q
+      pub sheet-no-states : {q : Refusal} → readStates file s at2 ≡ refused q → readSheetTo file most ≡ refused q
       unfolding sheet
       sheet-no-states e = simp (version-got, count-got, e)
 
-      module _ {rows : Rows} {next : ℕ} (states-got : readStates file s s at2 ≡ got rows next) where
+      module _ {rows : Rows} {next : ℕ} (states-got : readStates file s at2 ≡ got rows next) where
         pub sheet-tail : next < length file → readSheetTo file most ≡ refused (Tail next)
         unfolding sheet
         sheet-tail h = simp (version-got, count-got, states-got, lt-ltb _ _ h)
@@ -50,20 +50,20 @@ module _ (file : List ℕ) (most : ℕ) where
 module _ (file : List ℕ) where
   -- how the version's field came out
   data Version : Type 0 where
-    wrong : (r : Refusal) → field file version version 0 ≡ refused r → Version
-    right : (v mid : ℕ) → field file version version 0 ≡ got v mid → Version
+    wrong : (r : Refusal) → field file sheetVersion sheetVersion 0 ≡ refused r → Version
+    right : (v mid : ℕ) → field file sheetVersion sheetVersion 0 ≡ got v mid → Version
 
   versioned : Version
-  versioned = go (field file version version 0) refl
+  versioned = go (field file sheetVersion sheetVersion 0) refl
     where
-      go : (x : Answer ℕ) → field file version version 0 ≡ x → Version
+      go : (x : Answer ℕ) → field file sheetVersion sheetVersion 0 ≡ x → Version
       go (refused r) e = wrong r e
       go (got v mid) e = right v mid e
 
   -- the version takes one byte, so that the state count stands at place 1
-  count-place : (v mid : ℕ) → Bytes file → field file version version 0 ≡ got v mid → mid ≡ 1
+  count-place : (v mid : ℕ) → Bytes file → field file sheetVersion sheetVersion 0 ≡ got v mid → mid ≡ 1
   count-place v mid all e =
-      let told = field-read file version version 0 v mid e in
+      let told = field-read file sheetVersion sheetVersion 0 v mid e in
       let at = written-read file 0 v mid all (told .read) in
       omega (arith, at .after, width-is v (one (omega (arith, told .high))))
 
@@ -113,9 +113,9 @@ module _ (file : List ℕ) where
   read-counts : (k : ℕ) (t : Table) (after : ℕ) → readSheetTo file k ≡ got t after → Counts k t
   unfolding sheet
   read-counts k t after e =
-      got-onward (field file version version 0) e λ v mid readVersion e₁.
+      got-onward (field file sheetVersion sheetVersion 0) e λ v mid readVersion e₁.
       got-onward (field file 1 k mid) e₁ λ s far readCount e₂.
-      got-onward (readStates file s s far) e₂ λ rows then readRows e₃.
+      got-onward (readStates file s far) e₂ λ rows then readRows e₃.
       got-past (ltb then (length file)) _ then _ e₃ λ ends done.
       let told = field-read file 1 k mid s far readCount in
       let same : s ≡ t .count = cc in

@@ -2,9 +2,9 @@
 -- Callers go by `found`, `frame` and the laws of growth and of what was made; none looks into a cell.
 use Prim.Native.Nat.{ℕ, zero, suc, _+_, _/_, _%_, _<_, _≤_}
 use native.Mathlib.Omega.{arith}
-use mathlib.Core.Path.{_≡_, refl, ap, subst, _∙_}
+use mathlib.Core.Path.{_≡_, refl, sym, ap, subst, _∙_}
 use mathlib.Core.Bool.{Bool, true, false}
-use mathlib.Core.List.{List}
+use mathlib.Core.List.{List, [], _∷_}
 use mathlib.Core.Logic.{_≢_}
 use mir.Val.{boolByte}
 use lib.Dec.{eqb}
@@ -12,15 +12,15 @@ use lib.ListN.{length, getD, set, length-set}
 use lib.Seq.{getD-set-same, getD-set-other}
 use borrow.Author.Count.{below-more}
 use Rattle.number.specs.Limits.{workCells}
-use Rattle.meaning.specs.Edges.{Bounded}
 use Rattle.meaning.specs.Re.{Re, isNothing, isEmpty}
+use Rattle.meaning.specs.PartLaws.{All}
 use Rattle.meaning.specs.Derive.{nullable}
 use Rattle.term.specs.declared.Term.{Term}
 use Rattle.term.specs.declared.Term.the-variants.{Nothing, Empty, Range, Cat, Alt, Star}
 use Rattle.term.specs.Cells.{fieldSize, kindSize, first, second, bitPlace, linkOf, emptyOf, nodeOf, grow, termBy, term, Below, Layered, Sound}
 use Rattle.term.specs.Area.{Wasted, GrownFree, Grown, Room, MakesFree, Makes}
-use Rattle.term.specs.Nodes.{kindOf, firstOf, secondOf, Fields, cellOf, nothingNode, emptyNode, Found, Over, Held}
-use Rattle.term.specs.ReadLaws.{kind-most}
+use Rattle.term.specs.Nodes.{kindOf, firstOf, secondOf, childrenOf, Fields, cellOf, nothingNode, emptyNode, Found, Over, Held}
+use Rattle.term.specs.ReadLaws.{kind-most, rebuild, below-children, grow-agree}
 
 -- ---- a cell gives its node back
 
@@ -61,12 +61,7 @@ module _ (link : ℕ) (empty : Bool) where
 
   node-cell : (u : Term) → Fields u → nodeOf (cellOf u link empty) ≡ u
   unfolding nodeOf
-  node-cell Nothing f = simp (kind-cell Nothing f)
-  node-cell Empty f = simp (kind-cell Empty f)
-  node-cell (Range lo hi) f = simp (kind-cell (Range lo hi) f, first-cell (Range lo hi) f, second-cell (Range lo hi) f)
-  node-cell (Cat a b) f = simp (kind-cell (Cat a b) f, first-cell (Cat a b) f, second-cell (Cat a b) f)
-  node-cell (Alt a b) f = simp (kind-cell (Alt a b) f, first-cell (Alt a b) f, second-cell (Alt a b) f)
-  node-cell (Star a) f = simp (kind-cell (Star a) f, first-cell (Star a) f)
+  node-cell u f = rw (kind-cell u f, first-cell u f, second-cell u f) (sym (rebuild u))
 
 -- a node that may stand in a cell of the area fits a cell
 pub below-fields : (u : Term) (i : ℕ) → i < workCells → Below u i → Fields u
@@ -78,14 +73,6 @@ below-fields (Alt l r) i h b = record { first = omega arith; second = omega arit
 below-fields (Star l) i h b = record { first = omega arith; second = omega arith }
 
 -- ---- terms by their cells
-
-grow-agree : (u : Term) (i : ℕ) (f g : ℕ → Re) → Below u i → ((j : ℕ) → j < i → f j ≡ g j) → grow u f ≡ grow u g
-grow-agree Nothing i f g b h = refl
-grow-agree Empty i f g b h = refl
-grow-agree (Range lo hi) i f g b h = refl
-grow-agree (Cat l r) i f g b h = cc (h l (b .0), h r (b .1))
-grow-agree (Alt l r) i f g b h = cc (h l (b .0), h r (b .1))
-grow-agree (Star l) i f g b h = cc (h l b)
 
 -- the same cells below top
 abbrev pub Same : List ℕ → List ℕ → ℕ → Type 0
@@ -142,26 +129,6 @@ found-empty s i u f = rw (f .is) (go u)
     go (Alt a b) = refl
     go (Star a) = refl
 
--- ---- bounds
-
-grow-bounded : (u : Term) (i : ℕ) (f : ℕ → Re) → Below u i → ((j : ℕ) → j < i → Bounded (f j)) → Bounded (grow u f)
-grow-bounded Nothing i f b h = tt
-grow-bounded Empty i f b h = tt
-grow-bounded (Range lo hi) i f b h = b
-grow-bounded (Cat l r) i f b h = (h l (b .0), h r (b .1))
-grow-bounded (Alt l r) i f b h = (h l (b .0), h r (b .1))
-grow-bounded (Star l) i f b h = h l b
-
-by-bounded : (n : ℕ) (s : List ℕ) (top i : ℕ) → Sound s top → i < top → Bounded (termBy n s i)
-unfolding termBy
-by-bounded zero s top i ok h = tt
-by-bounded (suc n) s top i ok h =
-    grow-bounded (nodeOf (getD s i 0)) i (termBy n s) (ok .nodes i h) (λ j b. by-bounded n s top j ok (omega arith))
-
-pub term-bounded : (s : List ℕ) (top i : ℕ) → Sound s top → i < top → Bounded (term s i)
-unfolding term
-term-bounded s top i ok h = by-bounded (suc i) s top i ok h
-
 -- ---- the area and its growth
 
 -- an area in which nothing stands yet
@@ -188,15 +155,12 @@ sound-less less ok h =
     }
 
 -- so the children of a node that stands over sound cells can be read
-module _ {s : List ℕ} {u : Term} {a b : ℕ} (o : Over s u) where
-  both-sound : (a < o .top) × (b < o .top) → Sound s (a + 1) × Sound s (b + 1)
-  both-sound l = (sound-less (a + 1) (o .sound) (omega arith), sound-less (b + 1) (o .sound) (omega arith))
-
-  pub over-cat : u ≡ Cat a b → Sound s (a + 1) × Sound s (b + 1)
-  over-cat e = both-sound (subst (λ (v : Term). Below v (o .top)) e (o .below))
-
-  pub over-alt : u ≡ Alt a b → Sound s (a + 1) × Sound s (b + 1)
-  over-alt e = both-sound (subst (λ (v : Term). Below v (o .top)) e (o .below))
+pub over-children : {s : List ℕ} {u : Term} (w : Term) → Over s u → u ≡ w → All (λ j. Sound s (j + 1)) (childrenOf w)
+over-children {s} w o e = go (childrenOf w) (below-children w (o .top) (subst (λ (v : Term). Below v (o .top)) e (o .below)))
+  where
+    go : (js : List ℕ) → All (λ j. j < o .top) js → All (λ j. Sound s (j + 1)) js
+    go [] h = tt
+    go (j ∷ js) h = (sound-less (j + 1) (o .sound) (omega (arith, h .0)), go js (h .1))
 
 pub grown-refl : {free : ℕ} {s : List ℕ} {top : ℕ} → Sound s top → GrownFree free s top s top
 grown-refl ok =

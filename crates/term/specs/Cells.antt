@@ -44,15 +44,19 @@ linkOf cell = cell / linkPlace % fieldSize
 unfoldable pub emptyOf : ℕ → Bool
 emptyOf cell = eqb (cell / bitPlace % 2) 1
 
+-- the node of a kind over two fields
+abbrev pub rebuilt : ℕ → ℕ → ℕ → Term
+rebuilt kind a b =
+    cond (eqb kind 1) Empty
+    (cond (eqb kind 2) (Range a b)
+    (cond (eqb kind 3) (Cat a b)
+    (cond (eqb kind 4) (Alt a b)
+    (cond (eqb kind 5) (Star a)
+    Nothing))))
+
 -- the node in a cell
 unfoldable pub nodeOf : ℕ → Term
-nodeOf cell =
-    cond (eqb (cell % kindSize) 1) Empty
-    (cond (eqb (cell % kindSize) 2) (Range (first cell) (second cell))
-    (cond (eqb (cell % kindSize) 3) (Cat (first cell) (second cell))
-    (cond (eqb (cell % kindSize) 4) (Alt (first cell) (second cell))
-    (cond (eqb (cell % kindSize) 5) (Star (first cell))
-    Nothing))))
+nodeOf cell = rebuilt (cell % kindSize) (first cell) (second cell)
 
 -- the term of a node, given the terms of its children
 abbrev pub grow : Term → (ℕ → Re) → Re

@@ -7,7 +7,9 @@ use mathlib.Core.Bool.{true, false}
 use mathlib.Core.List.{List}
 use lib.ListN.{length, getD, set}
 use Rattle.number.specs.Limits.{workCells}
-use Rattle.meaning.specs.SizeLaws.{size-some, short-size}
+use Rattle.meaning.specs.Re.{sizes}
+use Rattle.meaning.specs.PartLaws.{size-some}
+use Rattle.meaning.specs.SizeLaws.{short-size}
 use Rattle.meaning.specs.Limited.{short}
 use Rattle.meaning.specs.Order.{order, also}
 use Rattle.meaning.specs.OrderLaws.{also-assoc, also-eq}
@@ -16,39 +18,35 @@ use Rattle.term.specs.declared.Order.{Order}
 use Rattle.term.specs.declared.Glance.{Glance}
 use Rattle.term.specs.declared.Glance.the-variants.{Told, One, Two}
 use Rattle.term.specs.Cells.{term, Sound}
-use Rattle.term.specs.Nodes.{kindOf, firstOf, secondOf, ordering, Found}
-use Rattle.term.specs.Places.{termsAt, sizes, ahead, mostWaiting}
+use Rattle.term.specs.Nodes.{kindOf, firstOf, secondOf, arityOf, ordering, Found}
+use Rattle.term.specs.Places.{termsAt, ahead, mostWaiting}
 use Rattle.term.specs.Compares.{decides, Only, Both, Glanced, orders, Comparing}
 use Rattle.term.specs.CellLaws.{sound-less}
-use Rattle.term.specs.ReadLaws.{first-below, second-below, star-size, pair-size, found-star, order-star, order-pair}
+use Rattle.term.specs.ReadLaws.{arity-same, arity-two, one-part, two-parts, one-size, two-size, order-only, order-both}
 use Rattle.term.specs.PlaceLaws.{set-there, set-other, listed-less, listed-more, sizes-most, ahead-last, ahead-set}
 
 -- ---- a look at two nodes
 
 module _ {s : List ℕ} {i j : ℕ} {u v : Term} (x : Found s i u) (y : Found s j v) (e : kindOf u ≡ kindOf v) where
-  pub only : {a b : ℕ} → kindOf u ≡ 5 → a ≡ firstOf u → b ≡ firstOf v → Only s i j a b
-  only {a} k p q =
-      let f = found-star x k p in
-      let g = found-star y (sym e ∙ k) q in
-      record {
-        is = order-star s i j u v x y e k p q;
-        left = f .below;
-        right = g .below;
-        smaller = omega (arith, star-size s i a f);
-      }
+  pub only : {a b : ℕ} → arityOf u ≡ 1 → a ≡ firstOf u → b ≡ firstOf v → Only s i j a b
+  only k p q =
+      let f = one-part x k p in
+      let g = one-part y (arity-same u v e ∙ k) q in
+      record { is = order-only x y e f g; left = f .below; right = g .below; smaller = omega (arith, one-size f) }
 
-  pub both : {a b c d : ℕ} → 2 < kindOf u → (kindOf u ≡ 5 → ⊥) → a ≡ firstOf u → b ≡ firstOf v → c ≡ secondOf u → d ≡ secondOf v
+  pub both : {a b c d : ℕ} → (arityOf u ≡ 0 → ⊥) → (arityOf u ≡ 1 → ⊥) → a ≡ firstOf u → b ≡ firstOf v → c ≡ secondOf u → d ≡ secondOf v
       → Both s i j a b c d
-  both {a} {b} {c} {d} k n p q p′ q′ =
-      let k′ : 2 < kindOf v = omega arith in
-      let n′ : kindOf v ≡ 5 → ⊥ = λ z. n (e ∙ z) in
+  both k n p q p′ q′ =
+      let two = arity-two u k n in
+      let f = two-parts x two p p′ in
+      let g = two-parts y (arity-same u v e ∙ two) q q′ in
       record {
-        is = order-pair s i j u v x y e k n p p′ q q′;
-        left = omega (arith, first-below x k);
-        right = omega (arith, first-below y k′);
-        second-left = omega (arith, second-below x k n);
-        second-right = omega (arith, second-below y k′ n′);
-        smaller = pair-size s i u x k n a c p p′;
+        is = order-both x y e f g;
+        left = f .first;
+        right = g .first;
+        second-left = f .second;
+        second-right = g .second;
+        smaller = two-size f;
       }
 
 -- what was told, by the answer

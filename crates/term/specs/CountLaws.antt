@@ -10,15 +10,15 @@ use lib.Seq.{getD-set-same, getD-set-other, getD-drop, drop-set-add}
 use borrow.Author.Count.{below-more}
 use borrow.Author.Tests.{le-leb, lt-leb}
 use Rattle.number.specs.Limits.{treeNodes}
-use Rattle.meaning.specs.Re.{size}
-use Rattle.meaning.specs.SizeLaws.{size-some}
+use Rattle.meaning.specs.Re.{size, sizes}
+use Rattle.meaning.specs.PartLaws.{size-some}
 use Rattle.term.specs.declared.Term.{Term}
 use Rattle.term.specs.Cells.{nodeOf, term}
-use Rattle.term.specs.Nodes.{kindOf, firstOf, secondOf, Found}
-use Rattle.term.specs.Places.{termsAt, sizes}
+use Rattle.term.specs.Nodes.{firstOf, secondOf, arityOf, Found}
+use Rattle.term.specs.Places.{termsAt}
 use Rattle.term.specs.Counts.{Countable, ShortTold, Counting}
 use Rattle.term.specs.CellLaws.{found}
-use Rattle.term.specs.ReadLaws.{first-below, second-below, leaf-size, star-size, pair-size, found-star}
+use Rattle.term.specs.ReadLaws.{arity-two, no-parts, one-part, two-parts, leaf-size, one-size, two-size}
 use Rattle.term.specs.PlaceLaws.{sizes-last, sizes-set}
 
 -- ---- the sizes that wait, in the cells from top to end
@@ -74,12 +74,15 @@ module _ {s : List ℕ} {top i : ℕ} (c : Countable s top i) where
       here = found s top at u (c .sound) (t .held) (e ∙ ap nodeOf (t .wasted .kept-below at (t .held)))
 
       -- a leaf: it is the last, or a place that waits comes next
-      module _ (leaf : kindOf u < 3) where
+      module _ (leaf : arityOf u ≡ 0) where
+        alone : size (term s at) ≡ 1
+        alone = leaf-size (term s at) (no-parts here leaf)
+
         pub told-short : end ≡ top → ShortTold s top i l true
         told-short none =
             record {
               is = sym (le-leb (size (term s i)) treeNodes
-                  (omega (arith, t .counted, sizes-none s l top end none, leaf-size s at u here leaf)));
+                  (omega (arith, t .counted, sizes-none s l top end none, alone)));
               wasted = t .wasted;
             }
 
@@ -98,32 +101,33 @@ module _ {s : List ℕ} {top i : ℕ} (c : Countable s top i) where
                 few = omega (arith, t .few);
                 wasted = t .wasted;
                 low = λ j h k. t .low j h (omega arith);
-                counted = omega (arith, t .counted, sizes-end s l top end waits, leaf-size s at u here leaf);
+                counted = omega (arith, t .counted, sizes-end s l top end waits, alone);
               }
 
-      pub star-next : {a : ℕ} → kindOf u ≡ 5 → a ≡ firstOf u → Counting s top i l a end (left - 1)
-      star-next {a} k p =
-          let f = found-star here k p in
+      pub one-next : {a : ℕ} → arityOf u ≡ 1 → a ≡ firstOf u → Counting s top i l a end (left - 1)
+      one-next {a} k p =
+          let f = one-part here k p in
           record {
             held = omega (arith, f .below, t .held);
             up = t .up;
             few = omega (arith, t .few);
             wasted = t .wasted;
             low = t .low;
-            counted = omega (arith, t .counted, star-size s at a f);
+            counted = omega (arith, t .counted, one-size f);
           }
 
       -- two children: the second waits
       pub end-inside : end < length l
       end-inside = omega (arith, c .room, t .wasted .same-length, t .few)
 
-      pub pair-next : {a b : ℕ} → 2 < kindOf u → (kindOf u ≡ 5 → ⊥) → a ≡ firstOf u → b ≡ secondOf u
+      pub two-next : {a b : ℕ} → (arityOf u ≡ 0 → ⊥) → (arityOf u ≡ 1 → ⊥) → a ≡ firstOf u → b ≡ secondOf u
           → Counting s top i (set l end b) a (end + 1) (left - 1)
-      pair-next {a} {b} k n p q =
+      two-next {a} {b} k n p q =
+          let f = two-parts here (arity-two u k n) p q in
           let there : getD (set l end b) end 0 ≡ b = getD-set-same l end b 0 end-inside in
           let other : (j : ℕ) → (j ≡ end → ⊥) → getD (set l end b) j 0 ≡ getD l j 0 = λ j d. getD-set-other l end j b 0 d in
           record {
-            held = omega (arith, first-below here k, p, t .held);
+            held = omega (arith, f .first, t .held);
             up = omega (arith, t .up);
             few = omega (arith, t .few);
             wasted = record {
@@ -133,6 +137,6 @@ module _ {s : List ℕ} {top i : ℕ} (c : Countable s top i) where
             };
             low = λ j h m.
                 below-more (λ (x : ℕ). top ≤ x → getD (set l end b) x 0 < top) end (λ x o g. rw (other x (λ z. omega arith)) (t .low x g o))
-                (λ _. rw there (omega (arith, second-below here k n, q, t .held))) j m h;
-            counted = omega (arith, t .counted, sizes-listed s l top end b (t .up) end-inside, pair-size s at u here k n a b p q);
+                (λ _. rw there (omega (arith, f .second, t .held))) j m h;
+            counted = omega (arith, t .counted, sizes-listed s l top end b (t .up) end-inside, two-size f);
           }

@@ -2,10 +2,12 @@
 -- Found, Held and Pushed are the records that callers of node_at, hold and push cite.
 use Prim.Native.Nat.{ℕ, _+_, _<_, Ordering, Ordering·lt, Ordering·eq, Ordering·gt}
 use mathlib.Core.Path.{_≡_}
-use mathlib.Core.Bool.{Bool, true, false}
-use mathlib.Core.List.{List}
+use mathlib.Core.Bool.{Bool}
+use mathlib.Core.List.{List, [], _∷_}
 use mir.Val.{boolByte}
-use lib.ListN.{getD}
+use lib.Dec.{eqb}
+use lib.ListN.{getD, take}
+use Rattle.meaning.specs.Re.{parts}
 use Rattle.term.specs.declared.Term.{Term}
 use Rattle.term.specs.declared.Term.the-variants.{Nothing, Empty, Range, Cat, Alt, Star}
 use Rattle.term.specs.declared.Order.{Order}
@@ -39,6 +41,18 @@ secondOf (Cat a b) = b
 secondOf (Alt a b) = b
 secondOf (Star a) = 0
 
+-- how many children it has, and which: the first ones of its fields
+abbrev pub arityOf : Term → ℕ
+arityOf Nothing = 0
+arityOf Empty = 0
+arityOf (Range lo hi) = 0
+arityOf (Cat a b) = 2
+arityOf (Alt a b) = 2
+arityOf (Star a) = 1
+
+abbrev pub childrenOf : Term → List ℕ
+childrenOf u = take (arityOf u) (firstOf u ∷ secondOf u ∷ [])
+
 -- a cell can hold it
 pub record Fields (u : Term) : Type 0 where
   pub first : firstOf u < fieldSize
@@ -48,21 +62,12 @@ pub record Fields (u : Term) : Type 0 where
 unfoldable pub cellOf : Term → ℕ → Bool → ℕ
 cellOf u link empty = packed (kindOf u) (firstOf u) (secondOf u) link (boolByte empty)
 
+-- what it is, by its kind
 abbrev pub nothingNode : Term → Bool
-nothingNode Nothing = true
-nothingNode Empty = false
-nothingNode (Range lo hi) = false
-nothingNode (Cat a b) = false
-nothingNode (Alt a b) = false
-nothingNode (Star a) = false
+nothingNode u = eqb (kindOf u) (kindOf Nothing)
 
 abbrev pub emptyNode : Term → Bool
-emptyNode Nothing = false
-emptyNode Empty = true
-emptyNode (Range lo hi) = false
-emptyNode (Cat a b) = false
-emptyNode (Alt a b) = false
-emptyNode (Star a) = false
+emptyNode u = eqb (kindOf u) (kindOf Empty)
 
 -- the code's answer of a comparison
 abbrev pub ordering : Order → Ordering
@@ -74,6 +79,16 @@ ordering Greater = Ordering·gt
 pub record Found (s : List ℕ) (i : ℕ) (u : Term) : Type 0 where
   pub below : Below u i
   pub is : term s i ≡ grow u (term s)
+
+-- the term in cell i has the term in cell a for its only part, or those in a and b for its two; they stand below
+pub record OnePart (s : List ℕ) (i a : ℕ) : Type 0 where
+  pub is : parts (term s i) ≡ term s a ∷ []
+  pub below : a < i
+
+pub record TwoParts (s : List ℕ) (i a b : ℕ) : Type 0 where
+  pub is : parts (term s i) ≡ term s a ∷ term s b ∷ []
+  pub first : a < i
+  pub second : b < i
 
 -- the children of a node stand in sound cells
 pub record Over (s : List ℕ) (u : Term) : Type 0 where

@@ -7,10 +7,10 @@ use mathlib.Core.List.{List, _∷_}
 use lib.ListN.{length, getD, set, length-set}
 use lib.Seq.{getD-set-same, getD-set-other}
 use borrow.Author.Count.{below-more}
-use Rattle.meaning.specs.Re.{Re, size}
-use Rattle.meaning.specs.SizeLaws.{size-some}
+use Rattle.meaning.specs.Re.{Re, size, sizes}
+use Rattle.meaning.specs.PartLaws.{size-some}
 use Rattle.term.specs.Cells.{term}
-use Rattle.term.specs.Places.{termsAt, sizes, ahead, mostWaiting, Listed}
+use Rattle.term.specs.Places.{termsAt, ahead, mostWaiting, Listed}
 
 -- ---- a place that is listed
 

@@ -5,18 +5,13 @@ use mathlib.Core.Path.{_≡_}
 use mathlib.Core.List.{List, [], _∷_}
 use lib.ListN.{length, getD}
 use Rattle.number.specs.Limits.{treeNodes}
-use Rattle.meaning.specs.Re.{Re, size}
+use Rattle.meaning.specs.Re.{Re, size, sizes}
 use Rattle.term.specs.Cells.{term}
 
 -- the terms of the places in the first n cells of l, the last one first; f tells the term of a place
 unfoldable pub termsAt : (ℕ → Re) → List ℕ → ℕ → List Re
 termsAt f l zero = []
 termsAt f l (suc n) = f (getD l n 0) ∷ termsAt f l n
-
--- how many nodes terms have together
-unfoldable pub sizes : List Re → ℕ
-sizes [] = 0
-sizes (v ∷ vs) = size v + sizes vs
 
 -- the nodes that are to come, of the term at hand and of those whose places wait
 abbrev pub ahead : List ℕ → List ℕ → ℕ → ℕ → ℕ

@@ -3,12 +3,13 @@
 ghost use mathlib.Core.Path.{_≡_};
 ghost use mathlib.Core.Bool.{true};
 ghost use Prim.Native.Nat.{_+_, _<_, compare};
+ghost use lib.Dec.{eqb};
 ghost use lib.ListN.{length, getD};
 ghost use Rattle.meaning.specs.Derive.{nullable as matchesEmpty};
 ghost use Rattle.meaning.specs.Order.{order, also};
 ghost use Rattle.meaning.specs.Limited.{short};
-ghost use Rattle.term.specs.Cells.{fieldSize, kindSize, packed, linkOf, nodeOf, grow, term, Below, Sound};
-ghost use Rattle.term.specs.Nodes.{kindOf, firstOf, secondOf, nothingNode, emptyNode, ordering, Fields, cellOf, Over, Held, Pushed};
+ghost use Rattle.term.specs.Cells.{fieldSize, kindSize, packed, linkOf, rebuilt as nodeBy, nodeOf, grow, term, Below, Sound};
+ghost use Rattle.term.specs.Nodes.{kindOf, firstOf, secondOf, arityOf, nothingNode, emptyNode, ordering, Fields, cellOf, Over, Held, Pushed};
 ghost use Rattle.term.specs.Counts.{Countable, ShortTold};
 ghost use Rattle.term.specs.Compares.{decides, Glanced};
 use number::limits::TREE_NODES;
@@ -40,7 +41,13 @@ const LINK_PLACE: u64 = KIND_SIZE * FIELD_SIZE * FIELD_SIZE;
 
 const BIT_PLACE: u64 = LINK_PLACE * FIELD_SIZE;
 
-// The places of kinds in the order: those from Cat on have children.
+// The places of the kinds in the order of terms.
+pub const NOTHING: usize = 0;
+
+pub const EMPTY: usize = 1;
+
+pub const RANGE: usize = 2;
+
 pub const CAT: usize = 3;
 
 pub const ALT: usize = 4;
@@ -50,29 +57,37 @@ pub const STAR: usize = 5;
 // Room for the places that wait while a short term is gone through: for each a node was seen, and one is still to be seen.
 pub const WAITING: usize = (TREE_NODES + 1) / 2;
 
+// The node of a kind over two fields.
+pub fn rebuilt(kind: usize, first: usize, second: usize) -> Term
+    ensures { λ r. ⌜ r ≡ nodeBy kind first second ⌝ }
+{
+    if kind == EMPTY {
+        return Term::Empty;
+    }
+    if kind == RANGE {
+        return Term::Range(first, second);
+    }
+    if kind == CAT {
+        return Term::Cat(first, second);
+    }
+    if kind == ALT {
+        return Term::Alt(first, second);
+    }
+    if kind == STAR {
+        return Term::Star(first);
+    }
+    Term::Nothing
+}
+
 // The node of a cell.
 fn unpack(cell: u64) -> Term
     ensures { λ r. ⌜ r ≡ nodeOf cell ⌝ }
 {
-    let kind = cell % KIND_SIZE;
-    let first = (cell / KIND_SIZE % FIELD_SIZE) as usize;
-    let second = (cell / (KIND_SIZE * FIELD_SIZE) % FIELD_SIZE) as usize;
-    if kind == 1 {
-        return Term::Empty;
-    }
-    if kind == 2 {
-        return Term::Range(first, second);
-    }
-    if kind == 3 {
-        return Term::Cat(first, second);
-    }
-    if kind == 4 {
-        return Term::Alt(first, second);
-    }
-    if kind == 5 {
-        return Term::Star(first);
-    }
-    Term::Nothing
+    rebuilt(
+        (cell % KIND_SIZE) as usize,
+        (cell / KIND_SIZE % FIELD_SIZE) as usize,
+        (cell / (KIND_SIZE * FIELD_SIZE) % FIELD_SIZE) as usize,
+    )
 }
 
 // The place of a node's kind in the order of terms, and its fields, 0 where it has none.
@@ -80,12 +95,12 @@ pub fn kind_of(t: Term) -> usize
     ensures { λ r. ⌜ r ≡ kindOf t ⌝ }
 {
     match t {
-        Term::Nothing => 0,
-        Term::Empty => 1,
-        Term::Range(_, _) => 2,
-        Term::Cat(_, _) => 3,
-        Term::Alt(_, _) => 4,
-        Term::Star(_) => 5,
+        Term::Nothing => NOTHING,
+        Term::Empty => EMPTY,
+        Term::Range(_, _) => RANGE,
+        Term::Cat(_, _) => CAT,
+        Term::Alt(_, _) => ALT,
+        Term::Star(_) => STAR,
     }
 }
 
@@ -112,6 +127,20 @@ pub fn second_of(t: Term) -> usize
         Term::Cat(_, b) => b,
         Term::Alt(_, b) => b,
         Term::Star(_) => 0,
+    }
+}
+
+// How many children a node has: its first fields are their numbers.
+pub fn arity(t: Term) -> usize
+    ensures { λ r. ⌜ r ≡ arityOf t ⌝ }
+{
+    match t {
+        Term::Nothing => 0,
+        Term::Empty => 0,
+        Term::Range(_, _) => 0,
+        Term::Cat(_, _) => 2,
+        Term::Alt(_, _) => 2,
+        Term::Star(_) => 1,
     }
 }
 
@@ -208,30 +237,22 @@ pub fn push(cells: &mut [u64], top: usize, node: Term) -> usize
 }
 
 // What a node is.
+fn is_kind(t: Term, kind: usize) -> bool
+    ensures { λ r. ⌜ r ≡ eqb (kindOf t) kind ⌝ }
+{
+    kind_of(t) == kind
+}
+
 pub fn is_nothing(t: Term) -> bool
     ensures { λ r. ⌜ r ≡ nothingNode t ⌝ }
 {
-    match t {
-        Term::Nothing => true,
-        Term::Empty => false,
-        Term::Range(_, _) => false,
-        Term::Cat(_, _) => false,
-        Term::Alt(_, _) => false,
-        Term::Star(_) => false,
-    }
+    is_kind(t, NOTHING)
 }
 
 pub fn is_empty(t: Term) -> bool
     ensures { λ r. ⌜ r ≡ emptyNode t ⌝ }
 {
-    match t {
-        Term::Nothing => false,
-        Term::Empty => true,
-        Term::Range(_, _) => false,
-        Term::Cat(_, _) => false,
-        Term::Alt(_, _) => false,
-        Term::Star(_) => false,
-    }
+    is_kind(t, EMPTY)
 }
 
 // Whether a term's tree has few enough nodes. It is gone through from left to right: where a node has two children, the place of the
@@ -246,8 +267,8 @@ pub fn is_short(cells: &mut [u64], top: usize, i: usize) -> bool
     while 0 < left {
         left -= 1;
         let node = node_at(cells, at);
-        let kind = kind_of(node);
-        if kind < CAT {
+        let children = arity(node);
+        if children == 0 {
             if end == top {
                 return true;
             }
@@ -256,7 +277,7 @@ pub fn is_short(cells: &mut [u64], top: usize, i: usize) -> bool
             continue;
         }
         at = first_of(node);
-        if kind == STAR {
+        if children == 1 {
             continue;
         }
         cells[end] = second_of(node) as u64;
@@ -327,10 +348,11 @@ fn compare_nodes(cells: &[u64], i: usize, j: usize) -> Glance
     if other < kind {
         return Glance::Told(Order::Greater);
     }
-    if kind < CAT {
+    let children = arity(x);
+    if children == 0 {
         return Glance::Told(compare_pairs(first_of(x), second_of(x), first_of(y), second_of(y)));
     }
-    if kind == STAR {
+    if children == 1 {
         return Glance::One(first_of(x), first_of(y));
     }
     Glance::Two(first_of(x), first_of(y), second_of(x), second_of(y))

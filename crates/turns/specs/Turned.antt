@@ -11,6 +11,7 @@ use Rattle.number.specs.Refused.Outcome.{gives, refuses}
 use Rattle.number.specs.Lists.{Writes}
 use Rattle.meaning.specs.Re.{Text}
 use Rattle.table.specs.Table.{lent, wellFormed}
+use Rattle.cutting.specs.Steps.{firstBy}
 use Rattle.cutting.specs.Calls.{cutOf}
 use Rattle.cutting.specs.Cut.{Ending, Cut}
 use Rattle.cutting.specs.Cut.Ending.{Done, StuckAt, FullAt}
@@ -40,7 +41,7 @@ cellLines kinds cells (suc n) =
 -- the cut of a turn: from a place on, with so many records, if the table is well formed
 abbrev pub turnOf : ℕ → List ℕ → List ℕ → Text → ℕ → ℕ → Outcome Cut
 turnOf s labels targets text at room =
-    cond (wellFormed s labels targets) (gives (cutOf (lent s labels targets) text at room)) (refuses Loaded)
+    cond (wellFormed s labels targets) (gives (cutOf (firstBy (lent s labels targets)) text at room)) (refuses Loaded)
 
 abbrev pub turnLines : (ℕ → ℕ) → ℕ → Outcome Cut → List ℕ
 turnLines kinds before (gives c) = cutLines kinds before c

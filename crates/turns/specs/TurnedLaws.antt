@@ -25,17 +25,16 @@ use Rattle.book.specs.ReadLaws.{book-valid}
 use Rattle.table.specs.Table.{lent, wellFormed}
 use Rattle.cutting.specs.declared.Word.{Word}
 use Rattle.cutting.specs.declared.Ended.{Ended}
-use Rattle.cutting.specs.Steps.{FirstBy, firstBy}
+use Rattle.cutting.specs.Steps.{firstBy}
 use Rattle.cutting.specs.Cut.{Ending, Cut}
 use Rattle.cutting.specs.Cut.Ending.{Done, StuckAt, FullAt}
-use Rattle.cutting.specs.CutLaws.{first-by, cut-is}
-use Rattle.cutting.specs.TileLaws.{cut-few}
+use Rattle.cutting.specs.CutLaws.{by-table, cut-is}
+use Rattle.cutting.specs.TileLaws.{cut-few, words-few}
 use Rattle.cutting.specs.Calls.{Report, ended, cutOf}
 use Rattle.cutting.specs.Flat.{recordCells, flat, laid}
 use Rattle.cutting.specs.Promises.{CutsInto}
 use Rattle.lines.specs.Lines.{wordLine, doneLine, stuckLine, refusedLine}
 use Rattle.programs.specs.Output.{kindNumber, kindIn, wordLines, lastLine}
-use Rattle.programs.specs.EnoughLaws.{proper, words-few}
 use Rattle.turns.specs.declared.Turn.the-variants.{Onward, Last}
 use Rattle.turns.specs.Turned.{Kinds, kindBy, cellLines, turnLines, turnOf, nextBy, nextAfter, Turned}
 
@@ -117,22 +116,22 @@ module _ (s : ℕ) (l t : List ℕ) (text : Text) (at : ℕ) (m m′ : List ℕ)
       → Came (turnOf s l t text at (length m / recordCells)) m′ (length m / recordCells) (length text - at) n e
   came e n f = go (wellFormed s l t) (cuts .answer) (cuts .cells)
     where
-      go : (b : Bool) → (let c = cutOf (lent s l t) text at (length m / recordCells) in
+      go : (b : Bool) → (let c = cutOf (firstBy (lent s l t)) text at (length m / recordCells) in
           let w = cond b (laid c m) (record { answer = refuses Loaded; cells = m }) in
           ended r ≡ w .answer → m′ ≡ w .cells
           → Came (cond b (gives c) (refuses Loaded)) m′ (length m / recordCells) (length text - at) n e)
       go true a c =
           let same = given (sym a ∙ f) in
-          let is = cut-is (FirstBy (lent s l t)) (firstBy (lent s l t)) (first-by (lent s l t)) (length m / recordCells) at (drop at text) in
+          let is = cut-is (by-table (lent s l t)) (length m / recordCells) at (drop at text) in
           let few = cut-few is in
-          let short = words-few (FirstBy (lent s l t)) (proper (lent s l t)) is in
+          let short = words-few (by-table (lent s l t)) is in
           let count = ap (λ (z : Report). z .count) same in
           record {
-            cut = cutOf (lent s l t) text at (length m / recordCells);
+            cut = cutOf (firstBy (lent s l t)) text at (length m / recordCells);
             is = refl;
             ending = ap (λ (z : Report). z .ending) same;
             count = count;
-            rest = drop (recordCells * length (cutOf (lent s l t) text at (length m / recordCells) .words)) m;
+            rest = drop (recordCells * length (cutOf (firstBy (lent s l t)) text at (length m / recordCells) .words)) m;
             laid = c;
             few = omega (arith, few, count);
             short = omega (arith, short, count, length-drop at text);
@@ -142,7 +141,7 @@ module _ (s : ℕ) (l t : List ℕ) (text : Text) (at : ℕ) (m m′ : List ℕ)
   pub came-not : (q : Refusal) → ended r ≡ refuses q → turnOf s l t text at (length m / recordCells) ≡ refuses q
   came-not q f = go (wellFormed s l t) (cuts .answer)
     where
-      go : (b : Bool) → (let c = cutOf (lent s l t) text at (length m / recordCells) in
+      go : (b : Bool) → (let c = cutOf (firstBy (lent s l t)) text at (length m / recordCells) in
           let w = cond b (laid c m) (record { answer = refuses Loaded; cells = m }) in
           ended r ≡ w .answer → cond b (gives c) (refuses Loaded) ≡ refuses q)
       go true a = absurd (clash (sym f ∙ a))

@@ -6,7 +6,7 @@ use mathlib.Core.Path.{_≡_, refl, sym, ap, subst, _∙_}
 use mathlib.Core.Option.Option.{some}
 use mathlib.Core.List.{List, [], _∷_, _++_, map, append-nil}
 use lib.ListN.{length, length-append}
-use Rattle.number.specs.Limits.{group, twoGroups, version, rules, nodes}
+use Rattle.number.specs.Limits.{group, twoGroups, rules, nodes}
 use Rattle.number.specs.Numbers.{writeNumber}
 use Rattle.number.specs.NumberLaws.{Written, write-way}
 use Rattle.number.specs.NumberLaws.Written.{one, two, three}
@@ -17,10 +17,11 @@ use Rattle.meaning.specs.Lang.{Same}
 use Rattle.meaning.specs.Means.{Matches}
 use Rattle.book.specs.declared.Node.{Node}
 use Rattle.book.specs.declared.Node.the-variants.{Nothing, Empty, Range, Cat, Alt, Star, Either}
-use Rattle.book.specs.Book.{Rule, Book, takes, total, writeNode, writeNodes, writeRule, writeRules, writeBook}
-use Rattle.book.specs.Valid.{Within, Leaves, ValidRule, AllValid, ValidBook}
+use Rattle.book.specs.Book.{Rule, Book, codeOf, takes, total, writeFields, writeNode, writeNodes, writeRule, writeRules, writeBook}
+use Rattle.book.specs.Valid.{InFields, Leaves, ValidRule, AllValid, ValidBook}
 use Rattle.book.specs.Expression.{runNodes, top, expression}
 use Rattle.book.specs.ReadLaws.{book-written}
+use Rattle.book.specs.ReadLawsWritten.{code-small}
 use Rattle.typed.specs.Exp.{Exp, Means, postfix}
 use Rattle.typed.specs.Lines.{Line, SpellsAll}
 use Rattle.typed.specs.Lines.Line.{rule}
@@ -105,49 +106,44 @@ wide n h = by-width (write-way n)
     by-width (three k) = absurd (omega arith)
 
 -- the longest node is a range of two bytes from 128 on
-node-long : (n : Node) → Within n → length (writeNode n) ≤ 5
+fields-long : (n : Node) → InFields n → length (writeFields n) ≤ 4
+fields-long Nothing h = omega arith
+fields-long Empty h = omega arith
+fields-long (Range lo hi) h = omega (arith, length-append (writeNumber lo) (writeNumber hi), wide lo (omega arith), wide hi (omega arith))
+fields-long Cat h = omega arith
+fields-long Alt h = omega arith
+fields-long Star h = omega arith
+fields-long (Either x) h = omega (arith, wide x (omega arith))
+
+node-long : (n : Node) → InFields n → length (writeNode n) ≤ 5
 unfolding writeNode
-node-long Nothing h = omega (arith, narrow 0 (omega arith))
-node-long Empty h = omega (arith, narrow 1 (omega arith))
-node-long (Range lo hi) h =
-    omega (
-      arith,
-      length-append (writeNumber 2) (writeNumber lo ++ writeNumber hi),
-      length-append (writeNumber lo) (writeNumber hi),
-      narrow 2 (omega arith),
-      wide lo (omega arith),
-      wide hi (omega arith),
-    )
-node-long Cat h = omega (arith, narrow 3 (omega arith))
-node-long Alt h = omega (arith, narrow 4 (omega arith))
-node-long Star h = omega (arith, narrow 5 (omega arith))
-node-long (Either x) h = omega (arith, length-append (writeNumber 6) (writeNumber x), narrow 6 (omega arith), wide x (omega arith))
+node-long n h = omega (arith, length-append (writeNumber (codeOf n)) (writeFields n), narrow (codeOf n) (code-small n), fields-long n h)
 
-nodes-long : (terms : ℕ) (ns : List Node) → Leaves terms ns → length (writeNodes ns) ≤ 5 * length ns
+nodes-long : (v terms : ℕ) (ns : List Node) → Leaves v terms ns → length (writeNodes ns) ≤ 5 * length ns
 unfolding writeNodes
-nodes-long terms [] h = omega arith
-nodes-long terms (n ∷ ns) h =
-    omega (arith, length-append (writeNode n) (writeNodes ns), node-long n (h .0), nodes-long (terms - takes n + 1) ns (h .2))
+nodes-long v terms [] h = omega arith
+nodes-long v terms (n ∷ ns) h =
+    omega (arith, length-append (writeNode n) (writeNodes ns), node-long n (h .0 .1), nodes-long v (terms - takes n + 1) ns (h .2))
 
-rule-long : (r : Rule) → ValidRule r → length (r .nodes) ≤ nodes → length (writeRule r) ≤ 4 + 5 * length (r .nodes)
+rule-long : (v : ℕ) (r : Rule) → ValidRule v r → length (r .nodes) ≤ nodes → length (writeRule r) ≤ 4 + 5 * length (r .nodes)
 unfolding writeRule
-rule-long r v h =
-    let k : ℕ = r .kind in
+rule-long v r k h =
+    let kind : ℕ = r .kind in
     let m : ℕ = length (r .nodes) in
     omega (
       arith,
-      length-append (writeNumber k) (writeNumber m ++ writeNodes (r .nodes)),
+      length-append (writeNumber kind) (writeNumber m ++ writeNodes (r .nodes)),
       length-append (writeNumber m) (writeNodes (r .nodes)),
-      wide k (omega (arith, v .kind-fits)),
+      wide kind (omega (arith, k .kind-fits)),
       wide m (omega arith),
-      nodes-long 0 (r .nodes) (v .leaves),
+      nodes-long v 0 (r .nodes) (k .leaves),
     )
 
-rules-long : (rs : List Rule) → AllValid rs → total rs ≤ nodes → length (writeRules rs) ≤ 4 * length rs + 5 * total rs
+rules-long : (v : ℕ) (rs : List Rule) → AllValid v rs → total rs ≤ nodes → length (writeRules rs) ≤ 4 * length rs + 5 * total rs
 unfolding writeRules total
-rules-long [] v h = omega arith
-rules-long (r ∷ rs) v h =
-    omega (arith, length-append (writeRule r) (writeRules rs), rule-long r (v .0) (omega arith), rules-long rs (v .1) (omega arith))
+rules-long v [] k h = omega arith
+rules-long v (r ∷ rs) k h =
+    omega (arith, length-append (writeRule r) (writeRules rs), rule-long v r (k .0) (omega arith), rules-long v rs (k .1) (omega arith))
 
 -- version and count one byte each, 32 kinds and node counts of two, 512 nodes of five
 pub book-long : (b : Book) → ValidBook b → length (writeBook b) ≤ 2 + rules * 4 + nodes * 5
@@ -160,7 +156,7 @@ book-long b v =
       length-append (writeNumber (length rs)) (writeRules rs),
       narrow (b .version) (omega (arith, v .known)),
       narrow (length rs) (omega (arith, v .few)),
-      rules-long rs (v .valid) (v .small),
+      rules-long (b .version) rs (v .valid) (v .small),
       v .few,
       v .small,
     )

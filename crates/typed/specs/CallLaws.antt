@@ -11,7 +11,7 @@ use mathlib.Core.Logic.{inl, inr}
 use lib.Dec.{ltb}
 use lib.ListN.{length, length-map}
 use borrow.Author.Tests.{ltb-false}
-use Rattle.number.specs.Limits.{rules, kinds, nodes, lastByte}
+use Rattle.number.specs.Limits.{firstVersion, rules, kinds, nodes, lastByte}
 use Rattle.number.specs.Branch.{by-cond}
 use Rattle.meaning.specs.Re.{Text}
 use Rattle.meaning.specs.Tests.{or-true}
@@ -35,13 +35,13 @@ pub data AllFit : List Line → Type 0 where
   none-fit : AllFit []
   more-fit : {k : ℕ} {e : Exp} {ls : List Line} → Fits e → AllFit ls → AllFit (rule k e ∷ ls)
 
-some-nodes : (ns : List Node) → Leaves 0 ns → 1 ≤ length ns
+some-nodes : (ns : List Node) → Leaves firstVersion 0 ns → 1 ≤ length ns
 some-nodes [] h = absurd (omega (arith, h))
 some-nodes (n ∷ ns) h = omega arith
 
-rule-valid : (k : ℕ) (e : Exp) → k ≤ kinds → Fits e → ValidRule (ruleOf (rule k e))
+rule-valid : (k : ℕ) (e : Exp) → k ≤ kinds → Fits e → ValidRule firstVersion (ruleOf (rule k e))
 rule-valid k e h f =
-    let l : Leaves 0 (postfix e) = subst (Leaves 0) (append-nil (postfix e)) (postfix-leaves e [] 0 f (omega arith)) in
+    let l : Leaves firstVersion 0 (postfix e) = subst (Leaves firstVersion 0) (append-nil (postfix e)) (postfix-leaves e [] 0 f (omega arith)) in
     record { kind-fits = h; some = some-nodes (postfix e) l; leaves = l }
 
 -- what the test of a line says
@@ -54,7 +54,7 @@ in-of i t k m z =
 
 pub record InRange (i t : ℕ) (ls : List Line) : Type 0 where
   pub few : i ≤ rules → i + length ls ≤ rules
-  pub valid : AllValid (map ruleOf ls)
+  pub valid : AllValid firstVersion (map ruleOf ls)
   pub small : t ≤ nodes → t + total (map ruleOf ls) ≤ nodes
 
 pub in-range : (i t : ℕ) (ls : List Line) → AllFit ls → fault i t ls ≡ none → InRange i t ls

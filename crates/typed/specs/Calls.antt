@@ -8,7 +8,7 @@ use mathlib.Core.List.{List, [], _∷_, _++_, map}
 use lib.Dec.{ltb, eqb}
 use lib.ListN.{length, drop}
 use Rattle.number.specs.declared.Refusal.the-variants.{Range, Room, Typed}
-use Rattle.number.specs.Limits.{version, rules, kinds, nodes, typedArea}
+use Rattle.number.specs.Limits.{firstVersion, rules, kinds, nodes, typedArea}
 use Rattle.number.specs.Refused.{Outcome}
 use Rattle.number.specs.Refused.Outcome.{gives, refuses}
 use Rattle.meaning.specs.Re.{Text}
@@ -25,7 +25,7 @@ abbrev pub ruleOf : Line → Rule
 ruleOf (rule k e) = record { kind = k; nodes = postfix e }
 
 unfoldable pub bookOf : List Line → Book
-bookOf ls = record { version = version; rules = map ruleOf ls }
+bookOf ls = record { version = firstVersion; rules = map ruleOf ls }
 
 -- after so many rules and nodes, a line of this kind and so many nodes is one rule too many, or its kind or the total is too large
 unfoldable pub outOf : ℕ → ℕ → ℕ → ℕ → Bool

@@ -14,6 +14,7 @@ use lib.ListN.{length}
 use borrow.Author.Tests.{leb-true, lt-leb, ne-eqb}
 use Rattle.meaning.specs.Re.{Text}
 use Rattle.meaning.specs.Tests.{clash, and-true, or-true, true-or, or-of-true}
+use Rattle.book.specs.Book.{listed}
 use Rattle.typed.specs.Sets.{Set, sets, named, Span, spans}
 use Rattle.typed.specs.Sets.Set.{alnum, alpha, blank, cntrl, digit, graph, lower, print, punct, space, upper, xdigit}
 use Rattle.typed.specs.Sets.Span.{span}
@@ -21,7 +22,7 @@ use Rattle.typed.specs.Exp.{Among}
 use Rattle.typed.specs.Spells.{between, bare, hex}
 use Rattle.number.specs.Quoted.{quoted}
 use Rattle.typed.specs.TestLaws.{between-true, true-between, both-hold}
-use Rattle.typed.specs.Classes.{held, holds, listed, isUpper, isLower, isDigit, isPunct, isAlpha, isAlnum, isGraph, isPrint, ByteOf, said, Rising, Fewest, In, title}
+use Rattle.typed.specs.Classes.{held, holds, isUpper, isLower, isDigit, isPunct, isAlpha, isAlnum, isGraph, isPrint, ByteOf, said, Rising, Fewest, In, title}
 use Rattle.typed.specs.Classes.In.{first, later}
 
 true-false : (b : Bool) → (b ≡ true → ⊥) → b ≡ false
@@ -77,12 +78,12 @@ low [] = true
 low (d ∷ t) = leb d 127 && low t
 
 far-listed : (t : Text) (c : ℕ) → low t ≡ true → 127 < c → listed t c ≡ false
-unfolding low listed
+unfolding low
 far-listed [] c k h = refl
 far-listed (d ∷ t) c k h =
     let b = and-true (leb d 127) (low t) k in
     let l = leb-true d 127 (b .0) in
-    or-none (ne-eqb d c (λ e. omega arith)) (far-listed t c (b .1) h)
+    or-none (ne-eqb c d (λ e. omega arith)) (far-listed t c (b .1) h)
 
 far-upper : (c : ℕ) → 127 < c → isUpper c ≡ false
 unfolding isUpper low quoted
@@ -163,7 +164,7 @@ everywhere : (f g : ℕ → Bool) → T (alike f g 128) → ((c : ℕ) → 127 <
 everywhere f g p far far′ c = elim (decLt 127 c) [ yes h ↦ far c h ∙ sym (far′ c h) | no n ↦ agree f g 128 p c (omega arith) ]
 
 tested : (s : Set) → T (alike (holds s) (said s) 128)
-unfolding alike same holds said isUpper isLower isDigit isPunct isAlpha isAlnum isGraph isPrint held listed quoted between spans
+unfolding alike same holds said isUpper isLower isDigit isPunct isAlpha isAlnum isGraph isPrint held quoted between spans
 tested alnum = tt
 tested alpha = tt
 tested blank = tt

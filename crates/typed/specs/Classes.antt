@@ -6,9 +6,10 @@ use mathlib.Core.Path.{_≡_}
 use mathlib.Core.Bool.{Bool, true, false, not, _&&_, _||_}
 use mathlib.Core.List.{List, [], _∷_}
 use mathlib.Core.Logic.{_↔_}
-use lib.Dec.{leb, eqb}
+use lib.Dec.{leb}
 use lib.ListN.{length}
 use Rattle.meaning.specs.Re.{Text}
+use Rattle.book.specs.Book.{listed}
 use Rattle.typed.specs.Sets.{Set, Span, spans}
 use Rattle.typed.specs.Sets.Set.{alnum, alpha, blank, cntrl, digit, graph, lower, print, punct, space, upper, xdigit}
 use Rattle.typed.specs.Sets.Span.{span}
@@ -22,10 +23,6 @@ held (span lo hi ∷ more) c = between lo hi c || held more c
 
 unfoldable pub holds : Set → ℕ → Bool
 holds s c = held (spans s) c
-
-unfoldable pub listed : Text → ℕ → Bool
-listed [] c = false
-listed (d ∷ t) c = eqb d c || listed t c
 
 -- one byte that the ranges hold
 pub record ByteOf (ss : List Span) (w : Text) : Type 0 where

@@ -2,19 +2,21 @@
 -- `re` is that term; both are shown for an expression with anything behind it, so that a rule's nodes are the case of nothing.
 use Prim.Native.Nat.{ℕ, _+_, _-_, _≤_}
 use native.Mathlib.Omega.{arith}
-use mathlib.Core.Path.{_≡_, refl, sym, ap, subst, _∙_}
+use mathlib.Core.Path.{_≡_, refl, ap, _∙_}
 use mathlib.Core.List.{List, [], _∷_, _++_, append-assoc}
 use mathlib.Core.Logic.{_↔_, _⊎_, inl, inr}
 use lib.ListN.{length}
-use Rattle.number.specs.Limits.{lastByte}
+use Rattle.number.specs.Limits.{firstVersion, lastByte}
 use Rattle.meaning.specs.Re.{Re, Text}
 use Rattle.meaning.specs.Lang.{Same}
 use Rattle.meaning.specs.LangLaws.{then-same, many-same}
 use Rattle.meaning.specs.Means.{Matches}
 use Rattle.book.specs.declared.Node.{Node}
 use Rattle.book.specs.declared.Node.the-variants.{Empty, Cat, Alt, Star}
+use Rattle.book.specs.Book.{allowed}
 use Rattle.book.specs.Valid.{Leaves}
 use Rattle.book.specs.Expression.{stacked, runNodes}
+use Rattle.book.specs.PostfixLaws.{three, leaves-as, at-count}
 use Rattle.typed.specs.Sets.{Set, Span, spans}
 use Rattle.typed.specs.Sets.Set.{alnum, alpha, blank, cntrl, digit, graph, lower, print, punct, space, upper, xdigit}
 use Rattle.typed.specs.Sets.Span.{span}
@@ -91,9 +93,6 @@ unfolding ranges runNodes stacked ofSpans
 ranges-run [] ns stack f = absurd f
 ranges-run (span lo hi ∷ more) ns stack f = joined-run more (Re.Range lo hi) ns stack
 
-three : (xs ys zs ns : List Node) → (xs ++ (ys ++ zs)) ++ ns ≡ xs ++ (ys ++ (zs ++ ns))
-three xs ys zs ns = append-assoc xs (ys ++ zs) ns ∙ ap (xs ++_) (append-assoc ys zs ns)
-
 pub postfix-run : (e : Exp) (ns : List Node) (stack : List Re) → runNodes (postfix e ++ ns) stack ≡ runNodes ns (re e ∷ stack)
 unfolding postfix runNodes stacked re
 postfix-run (byte c) ns stack = refl
@@ -154,48 +153,42 @@ Fits (star a) = Fits a
 Fits (plus a) = Fits a
 Fits (maybe a) = Fits a
 
-leaves-as : (t : ℕ) {xs ys : List Node} → xs ≡ ys → Leaves t ys → Leaves t xs
-leaves-as t e h = subst (Leaves t) (sym e) h
-
-at-count : (ns : List Node) (t u : ℕ) → t ≡ u → Leaves t ns → Leaves u ns
-at-count ns t u e h = subst (λ (x : ℕ). Leaves x ns) e h
-
-joined-leave : (more : List Span) (ns : List Node) (t : ℕ) → SpansFit more → Leaves (t + 1) ns → Leaves (t + 1) (joined more ++ ns)
-unfolding joined
+joined-leave : (more : List Span) (ns : List Node) (t : ℕ) → SpansFit more → Leaves firstVersion (t + 1) ns → Leaves firstVersion (t + 1) (joined more ++ ns)
+unfolding joined allowed
 joined-leave [] ns t f h = h
 joined-leave (span lo hi ∷ more) ns t f h =
-    (f .0, omega arith, (tt, omega arith, at-count (joined more ++ ns) (t + 1) (t + 1 - 0 + 1 - 2 + 1) (omega arith) (joined-leave more ns t (f .1) h)))
+    ((refl, f .0), omega arith, ((refl, tt), omega arith, at-count firstVersion (joined more ++ ns) (t + 1) (t + 1 - 0 + 1 - 2 + 1) (omega arith) (joined-leave more ns t (f .1) h)))
 
-ranges-leave : (ss : List Span) (ns : List Node) (t : ℕ) → RangesFit ss → Leaves (t + 1) ns → Leaves t (ranges ss ++ ns)
-unfolding ranges
+ranges-leave : (ss : List Span) (ns : List Node) (t : ℕ) → RangesFit ss → Leaves firstVersion (t + 1) ns → Leaves firstVersion t (ranges ss ++ ns)
+unfolding ranges allowed
 ranges-leave [] ns t f h = absurd f
 ranges-leave (span lo hi ∷ more) ns t f h =
-    (f .0, omega arith, at-count (joined more ++ ns) (t + 1) (t - 0 + 1) (omega arith) (joined-leave more ns t (f .1) h))
+    ((refl, f .0), omega arith, at-count firstVersion (joined more ++ ns) (t + 1) (t - 0 + 1) (omega arith) (joined-leave more ns t (f .1) h))
 
-one-leaves : (ns : List Node) (t : ℕ) → Leaves (t + 1) ns → Leaves (t - 0 + 1) ns
-one-leaves ns t h = at-count ns (t + 1) (t - 0 + 1) (omega arith) h
+one-leaves : (ns : List Node) (t : ℕ) → Leaves firstVersion (t + 1) ns → Leaves firstVersion (t - 0 + 1) ns
+one-leaves ns t h = at-count firstVersion ns (t + 1) (t - 0 + 1) (omega arith) h
 
-two-leave : (ns : List Node) (t : ℕ) → Leaves (t + 1) ns → Leaves (t + 1 + 1 - 2 + 1) ns
-two-leave ns t h = at-count ns (t + 1) (t + 1 + 1 - 2 + 1) (omega arith) h
+two-leave : (ns : List Node) (t : ℕ) → Leaves firstVersion (t + 1) ns → Leaves firstVersion (t + 1 + 1 - 2 + 1) ns
+two-leave ns t h = at-count firstVersion ns (t + 1) (t + 1 + 1 - 2 + 1) (omega arith) h
 
-pub postfix-leaves : (e : Exp) (ns : List Node) (t : ℕ) → Fits e → Leaves (t + 1) ns → Leaves t (postfix e ++ ns)
-unfolding postfix
-postfix-leaves (byte c) ns t f h = ((omega arith, f), omega arith, one-leaves ns t h)
-postfix-leaves dot ns t f h = ((omega arith, omega arith), omega arith, one-leaves ns t h)
+pub postfix-leaves : (e : Exp) (ns : List Node) (t : ℕ) → Fits e → Leaves firstVersion (t + 1) ns → Leaves firstVersion t (postfix e ++ ns)
+unfolding postfix allowed
+postfix-leaves (byte c) ns t f h = ((refl, (omega arith, f)), omega arith, one-leaves ns t h)
+postfix-leaves dot ns t f h = ((refl, (omega arith, omega arith)), omega arith, one-leaves ns t h)
 postfix-leaves (set s) ns t f h = ranges-leave (spans s) ns t (sets-fit s) h
-postfix-leaves empty ns t f h = (tt, omega arith, one-leaves ns t h)
+postfix-leaves empty ns t f h = ((refl, tt), omega arith, one-leaves ns t h)
 postfix-leaves (cat a b) ns t f h =
-    leaves-as t (three (postfix a) (postfix b) (Cat ∷ []) ns)
-    (postfix-leaves a (postfix b ++ (Cat ∷ ns)) t (f .0) (postfix-leaves b (Cat ∷ ns) (t + 1) (f .1) (tt, omega arith, two-leave ns t h)))
+    leaves-as firstVersion t (three (postfix a) (postfix b) (Cat ∷ []) ns)
+    (postfix-leaves a (postfix b ++ (Cat ∷ ns)) t (f .0) (postfix-leaves b (Cat ∷ ns) (t + 1) (f .1) ((refl, tt), omega arith, two-leave ns t h)))
 postfix-leaves (alt a b) ns t f h =
-    leaves-as t (three (postfix a) (postfix b) (Alt ∷ []) ns)
-    (postfix-leaves a (postfix b ++ (Alt ∷ ns)) t (f .0) (postfix-leaves b (Alt ∷ ns) (t + 1) (f .1) (tt, omega arith, two-leave ns t h)))
+    leaves-as firstVersion t (three (postfix a) (postfix b) (Alt ∷ []) ns)
+    (postfix-leaves a (postfix b ++ (Alt ∷ ns)) t (f .0) (postfix-leaves b (Alt ∷ ns) (t + 1) (f .1) ((refl, tt), omega arith, two-leave ns t h)))
 postfix-leaves (star a) ns t f h =
-    leaves-as t (append-assoc (postfix a) (Star ∷ []) ns) (postfix-leaves a (Star ∷ ns) t f (tt, omega arith, at-count ns (t + 1) (t + 1 - 1 + 1) (omega arith) h))
+    leaves-as firstVersion t (append-assoc (postfix a) (Star ∷ []) ns) (postfix-leaves a (Star ∷ ns) t f ((refl, tt), omega arith, at-count firstVersion ns (t + 1) (t + 1 - 1 + 1) (omega arith) h))
 postfix-leaves (plus a) ns t f h =
-    leaves-as t (three (postfix a) (postfix a) (Star ∷ Cat ∷ []) ns)
+    leaves-as firstVersion t (three (postfix a) (postfix a) (Star ∷ Cat ∷ []) ns)
     (postfix-leaves a (postfix a ++ (Star ∷ Cat ∷ ns)) t f (postfix-leaves a (Star ∷ Cat ∷ ns) (t + 1) f
-    (tt, omega arith, (tt, omega arith, at-count ns (t + 1) (t + 1 + 1 - 1 + 1 - 2 + 1) (omega arith) h))))
+    ((refl, tt), omega arith, ((refl, tt), omega arith, at-count firstVersion ns (t + 1) (t + 1 + 1 - 1 + 1 - 2 + 1) (omega arith) h))))
 postfix-leaves (maybe a) ns t f h =
-    leaves-as t (append-assoc (postfix a) (Empty ∷ Alt ∷ []) ns)
-    (postfix-leaves a (Empty ∷ Alt ∷ ns) t f (tt, omega arith, (tt, omega arith, at-count ns (t + 1) (t + 1 - 0 + 1 - 2 + 1) (omega arith) h)))
+    leaves-as firstVersion t (append-assoc (postfix a) (Empty ∷ Alt ∷ []) ns)
+    (postfix-leaves a (Empty ∷ Alt ∷ ns) t f ((refl, tt), omega arith, ((refl, tt), omega arith, at-count firstVersion ns (t + 1) (t + 1 - 0 + 1 - 2 + 1) (omega arith) h)))

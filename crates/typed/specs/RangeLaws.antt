@@ -10,7 +10,7 @@ use mathlib.Core.Logic.{_↔_}
 use lib.ListN.{length, length-append}
 use borrow.Author.Tests.{le-ltb}
 use Rattle.number.specs.declared.Refusal.the-variants.{Range}
-use Rattle.number.specs.Limits.{rules, kinds, nodes}
+use Rattle.number.specs.Limits.{firstVersion, rules, kinds, nodes}
 use Rattle.number.specs.Refused.{Outcome}
 use Rattle.number.specs.Refused.Outcome.{refuses}
 use Rattle.meaning.specs.Re.{Text}
@@ -69,7 +69,7 @@ limits-last ls k e h =
 
 -- ---- no fault
 
-kinds-valid : (ls : List Line) → AllValid (map ruleOf ls) → KindsFit ls
+kinds-valid : (ls : List Line) → AllValid firstVersion (map ruleOf ls) → KindsFit ls
 kinds-valid [] v = tt
 kinds-valid (rule k e ∷ ls) v = (v .0 .kind-fits, kinds-valid ls (v .1))
 

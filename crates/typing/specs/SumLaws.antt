@@ -12,7 +12,7 @@ use lib.Seq.{take-suc, length-take-le}
 use borrow.Author.Tests.{lt-ltb, le-ltb, eq-eqb, ne-eqb}
 use Rattle.number.specs.declared.Refusal.{Refusal}
 use Rattle.number.specs.declared.Refusal.the-variants.{Range, Room, Typed}
-use Rattle.number.specs.Limits.{version, rules, kinds, nodes, typedArea}
+use Rattle.number.specs.Limits.{firstVersion, rules, kinds, nodes, typedArea}
 use Rattle.number.specs.Refused.{Outcome, rowOf}
 use Rattle.number.specs.Refused.Outcome.{gives, refuses}
 use Rattle.number.specs.Lists.{Writes, written, writes-none, writes-then, take-written, stored-one, drop-one}
@@ -349,21 +349,21 @@ module _ (text : List ℕ) (s : Sum) (book out : List ℕ) where
   finish-none g z = record { same = refl; gives = λ ls d a. none-given ls z g d a }
 
   module _ (o₁ o₂ out′ : List ℕ) (at₁ at₂ end : ℕ) (g : s .faulty ≡ false) (n : s .rules ≡ 0 → ⊥) (room : Roomy s book) (long : typedArea ≤ length out)
-      (w₁ : Writes (writeNumber version) out o₁ 0 at₁) (w₂ : Writes (writeNumber (s .rules)) o₁ o₂ at₁ at₂) (w₃ : Writes (take (s .end) book) o₂ out′ at₂ end) where
+      (w₁ : Writes (writeNumber firstVersion) out o₁ 0 at₁) (w₂ : Writes (writeNumber (s .rules)) o₁ o₂ at₁ at₂) (w₃ : Writes (take (s .end) book) o₂ out′ at₂ end) where
     abbrev whole-book : List ℕ
-    whole-book = writeNumber version ++ (writeNumber (s .rules) ++ take (s .end) book)
+    whole-book = writeNumber firstVersion ++ (writeNumber (s .rules) ++ take (s .end) book)
 
     book-written : Writes whole-book out out′ 0 end
     book-written =
-        writes-then (omega arith) w₁ (writes-then (omega (arith, w₁ .place, width-most version, long, writes-same w₁ (omega (arith, width-most version, long)))) w₂ w₃)
+        writes-then (omega arith) w₁ (writes-then (omega (arith, w₁ .place, width-most firstVersion, long, writes-same w₁ (omega (arith, width-most firstVersion, long)))) w₂ w₃)
 
     book-short : length whole-book ≤ length out
     book-short =
         omega (
           arith,
-          length-append (writeNumber version) (writeNumber (s .rules) ++ take (s .end) book),
+          length-append (writeNumber firstVersion) (writeNumber (s .rules) ++ take (s .end) book),
           length-append (writeNumber (s .rules)) (take (s .end) book),
-          width-most version,
+          width-most firstVersion,
           width-most (s .rules),
           length-take-le (s .end) book (omega (arith, room .short, room .few, room .small, room .book-is)),
           room .short,
@@ -386,8 +386,8 @@ module _ (text : List ℕ) (s : Sum) (book out : List ℕ) where
     book-given [] d (in-range f i r m b) = absurd (n r)
     book-given (l ∷ ls) d (in-range f i r m b) =
         given-book (writeBook (bookOf (l ∷ ls)))
-        (ap (λ (x : List ℕ). writeNumber version ++ (writeNumber (s .rules) ++ x)) b
-        ∙ ap (λ (x : ℕ). writeNumber version ++ (writeNumber x ++ writeRules (map ruleOf (l ∷ ls)))) (r ∙ sym (length-map (l ∷ ls) ruleOf)))
+        (ap (λ (x : List ℕ). writeNumber firstVersion ++ (writeNumber (s .rules) ++ x)) b
+        ∙ ap (λ (x : ℕ). writeNumber firstVersion ++ (writeNumber x ++ writeRules (map ruleOf (l ∷ ls)))) (r ∙ sym (length-map (l ∷ ls) ruleOf)))
         (when-right text l ls d (limits-none (l ∷ ls) i))
 
     pub finish-book : Finishes text s book out (Bytes end) out′

@@ -16,11 +16,11 @@ use names::byte_at;
 use names::digit_of;
 use number::Refusal;
 use number::limits::DEEP;
+use number::limits::FIRST_VERSION;
 use number::limits::KINDS;
 use number::limits::NODES;
 use number::limits::RULES;
 use number::limits::TYPED_AREA;
-use number::limits::VERSION;
 use number::write_number;
 use table::Written;
 
@@ -224,7 +224,7 @@ fn finish(text: &[u8], sum: Sum, book: &[u8], out: &mut [u8]) -> Written
     if done == 0 {
         return Written::Unwritten(Refusal::Range(0));
     }
-    let at_count = write_number(VERSION, out, 0);
+    let at_count = write_number(FIRST_VERSION, out, 0);
     let first = write_number(done, out, at_count);
     Written::Bytes(copy(book, sum.end, out, first))
 }

@@ -4,26 +4,22 @@ use Prim.Native.Nat.{ℕ, zero, suc, _+_, _*_, _<_, _≤_}
 use native.Mathlib.Numerals.{add-one}
 use native.Mathlib.Omega.{arith}
 use mathlib.Core.Path.{_≡_, refl, sym, ap, _∙_}
-use mathlib.Core.Logic.{inl, inr}
-use mathlib.Core.Bool.{Bool, true, false}
-use mathlib.Core.List.{List, [], _∷_, _++_, map}
-use borrow.Author.Tests.{leb-false, le-leb}
-use lib.ListN.{length, getD, take, set, length-set}
-use lib.Seq.{take-suc, take-suc-set, getD-set-other}
+use mathlib.Core.Bool.{true}
+use mathlib.Core.List.{List, [], _∷_, _++_}
+use lib.ListN.{length, getD, take, set}
+use lib.Seq.{take-suc}
 use Rattle.number.specs.Limits.{rules, treeNodes, pool}
 use Rattle.meaning.specs.Re.{Re, size}
-use Rattle.meaning.specs.Re.Re.{Nothing, Empty, Range, Cat, Alt, Star}
-use Rattle.meaning.specs.Derive.{deriv}
-use Rattle.meaning.specs.Limited.{Fit, short, derivFit, derivResults, Over}
+use Rattle.meaning.specs.Re.Re.{Nothing}
+use Rattle.meaning.specs.Limited.{Fit, short, derivFit}
 use Rattle.meaning.specs.Limited.Fit.{Long, Fits}
-use Rattle.meaning.specs.Limited.Over.{here}
-use Rattle.meaning.specs.LimitedLaws.{deriv-long, deriv-short}
+use Rattle.meaning.specs.LimitedLaws.{deriv-short, deriv-fits-short}
 use Rattle.meaning.specs.Shape.{InShape}
 use Rattle.meaning.specs.ShapeLaws.{shape-deriv}
 use Rattle.meaning.specs.SizeLaws.{short-size}
-use Rattle.term.specs.Cells.{term, Sound}
-use Rattle.term.specs.Area.{pending, Wasted, GrownFree}
-use Rattle.term.specs.CellLaws.{Same, frame, sound-less}
+use Rattle.term.specs.Cells.{term}
+use Rattle.term.specs.Area.{pending, Wasted}
+use Rattle.term.specs.CellLaws.{frame}
 use Rattle.normal.specs.declared.Made.{Made}
 use Rattle.normal.specs.declared.Made.the-variants.{Long as Made·long}
 use Rattle.normal.specs.Made.{MadeBy}
@@ -31,72 +27,17 @@ use Rattle.derivative.specs.Derives.{derivRoom, derivCells, Derives}
 use Rattle.normal.specs.AnswerLaws.{Got, long-is, long-wasted}
 use Rattle.walk.specs.Vectors.{Vector, front, derived}
 use Rattle.walk.specs.Vectors.Vector.{TooLong, Terms}
-use Rattle.walk.specs.Parts.{withParts, withVector, Part, InPool}
-use Rattle.walk.specs.PartsLaws.{parts-hold}
-use Rattle.walk.specs.Parts.Part.{whole, cat-left, cat-right, alt-left, alt-right, star-in}
-use Rattle.pool.specs.Pooled.{termsOf, Pool}
-use Rattle.pool.specs.Index.{Indexed, Open, Put}
-use Rattle.pool.specs.IndexLaws.{indexed-same}
-use Rattle.pool.specs.PoolLaws.{terms-frame, held-stands, term-held-below, pooled, pool-same, pool-as}
+use Rattle.walk.specs.Parts.{withVector}
+use Rattle.pool.specs.Pooled.{termsOf}
+use Rattle.pool.specs.Index.{Indexed, Put}
+use Rattle.pool.specs.PoolLaws.{pooled, pool-as}
 use Rattle.vector.specs.Layout.{nothingCell}
 use Rattle.vector.specs.Vectors.{vectorOf}
-use Rattle.vector.specs.Memory.{Shaped}
 use Rattle.vector.specs.Promises.{Derivable, Done, Spared}
-use Rattle.vector.specs.PlaceLaws.{all-more, vector-length, vector-at}
-use Rattle.vector.specs.MemoryLaws.{vector-same-cells}
+use Rattle.vector.specs.PlaceLaws.{vector-length, vector-at}
+use Rattle.vector.specs.PutLaws.{map-snoc, with-snoc, Puts, More, term-puts, term-more}
 
--- ---- a derivative that fits is short
-
--- the derivative is itself among the results on the way
-own-over : (c : ℕ) (r : Re) → treeNodes < size (deriv c r) → Over (derivResults c r)
-unfolding derivResults
-own-over c Nothing h = here h
-own-over c Empty h = here h
-own-over c (Range lo hi) h = here h
-own-over c (Cat a b) h = here h
-own-over c (Alt a b) h = here h
-own-over c (Star a) h = here h
-
-pub fits-short : (c : ℕ) (r x : Re) → derivFit c r ≡ Fits x → short x ≡ true
-fits-short c r x e = go (short x) refl
-  where
-    go : (b : Bool) → short x ≡ b → short x ≡ true
-    go true d = d
-    go false d =
-        let h : treeNodes < size (deriv c r) = rw (deriv-short c r x e) at (leb-false (size x) treeNodes d) in
-        let l : derivFit c r ≡ Long = deriv-long c r .1 (own-over c r h) in
-        absurd (let z : _≡_ {A = ℕ} 0 1 = cc in omega arith)
-
--- ---- parts of a term in shape
-
-part-shape : {x r : Re} → Part x r → InShape r → InShape x
-part-shape (whole e) s = rw e s
-part-shape (cat-left p) s = part-shape p (s .0)
-part-shape (cat-right p) s = part-shape p (s .1)
-part-shape (alt-left p) s = part-shape p (s .0)
-part-shape (alt-right p) s = part-shape p (s .1)
-part-shape (star-in p) s = part-shape p (s .0)
-
-part-size : {x r : Re} → Part x r → size x ≤ size r
-unfolding size
-part-size {x} {r} (whole e) = rw e (omega arith)
-part-size (cat-left p) = omega (arith, part-size p)
-part-size (cat-right p) = omega (arith, part-size p)
-part-size (alt-left p) = omega (arith, part-size p)
-part-size (alt-right p) = omega (arith, part-size p)
-part-size (star-in p) = omega (arith, part-size p)
-
--- a pool with one more term in shape is in shape
-pub shaped-put : (s : List ℕ) (top : ℕ) (s′ : List ℕ) (top′ : ℕ) (x : Re) → Shaped s top → Pool s′ top′ (withParts (termsOf s top) x) → InShape x
-    → short x ≡ true → Shaped s′ top′
-shaped-put s top s′ top′ x old p f b i h =
-    let held : InPool (withParts (termsOf s top) x) (term s′ i) = rw (p .holds) at (term-held-below s′ top′ i h) in
-    elim (parts-hold (termsOf s top) x (term s′ i) .0 held) [
-      | inl k ↦ let t = held-stands s top (term s′ i) k in rw (← t .is) (old (t .at) (t .within))
-      | inr k ↦ (part-shape k f, le-leb (size (term s′ i)) treeNodes (omega (arith, part-size k, short-size x b)))
-    ]
-
--- ---- one place more
+-- ---- the terms of a derived vector
 
 -- one term more behind a vector
 abbrev behind : Vector → Fit → Vector
@@ -133,20 +74,8 @@ derived-long c (r ∷ rs) (suc k) h e = rw (derived-long c rs k (omega arith) e)
     front-long Long = refl
     front-long (Fits x) = refl
 
-pub with-snoc : (p xs : List Re) (x : Re) → withVector p (xs ++ (x ∷ [])) ≡ withParts (withVector p xs) x
-unfolding withVector
-with-snoc p [] x = refl
-with-snoc p (r ∷ xs) x = with-snoc (withParts p r) xs x
-
-map-snoc : (f : ℕ → Re) (xs : List ℕ) (x : ℕ) → map f (xs ++ (x ∷ [])) ≡ map f xs ++ (f x ∷ [])
-map-snoc f [] x = refl
-map-snoc f (y ∷ xs) x = ap (λ (l : List Re). f y ∷ l) (map-snoc f xs x)
-
 vector-next : (s : List ℕ) (i : ℕ) (v : List ℕ) → i < length v → vectorOf s (i + 1) v ≡ vectorOf s i v ++ (term s (getD v i 0) ∷ [])
 vector-next s i v h = rw (add-one, take-suc v i 0 h) (map-snoc (term s) (take i v) (getD v i 0))
-
-pub vector-set : (s : List ℕ) (i : ℕ) (w : List ℕ) (a : ℕ) → i < length w → vectorOf s (i + 1) (set w i a) ≡ vectorOf s i w ++ (term s a ∷ [])
-vector-set s i w a h = rw (add-one, take-suc-set w i a h) (map-snoc (term s) (take i w) a)
 
 -- ---- the loop over the places
 
@@ -173,12 +102,6 @@ going-first byte to d l p = record {
     few = omega arith;
   };
 }
-
--- what put_term asks
-pub record Puts (x s : List ℕ) (top root : ℕ) : Type 0 where
-  pub ready : Open x s top treeNodes
-  pub sound : Sound s (root + 1)
-  pub small : size (term s root) ≤ treeNodes
 
 module _ {x s : List ℕ} {top n : ℕ} {v : List ℕ} {byte : ℕ} {x₁ s₁ : List ℕ} {next : ℕ} {to : List ℕ} {i : ℕ}
     (d : Derivable x s top n v) (g : Going s top n v byte x₁ s₁ next to i) (h : i < n) where
@@ -216,12 +139,11 @@ module _ {x s : List ℕ} {top n : ℕ} {v : List ℕ} {byte : ℕ} {x₁ s₁ :
     room = omega (arith, low, old-size, d .long, g .spared .same-length);
   }
 
-  spared-on : (s₂ : List ℕ) → length s₂ ≡ length s₁ → Same s₁ s₂ next → ((j : ℕ) → nothingCell ≤ j → getD s₂ j 0 ≡ getD s₁ j 0)
-      → Spared s top s₂
-  spared-on s₂ e b a = record {
-    same-length = e ∙ g .spared .same-length;
-    kept-below = λ j k. b j (omega (arith, g .done .up)) ∙ g .spared .kept-below j k;
-    kept-above = λ j k. a j k ∙ g .spared .kept-above j k;
+  spared-on : {s₂ : List ℕ} → Spared s₁ next s₂ → Spared s top s₂
+  spared-on r = record {
+    same-length = r .same-length ∙ g .spared .same-length;
+    kept-below = λ j k. r .kept-below j (omega (arith, g .done .up)) ∙ g .spared .kept-below j k;
+    kept-above = λ j k. r .kept-above j k ∙ g .spared .kept-above j k;
   }
 
   -- the place's term is too long, and so is the vector
@@ -231,7 +153,11 @@ module _ {x s : List ℕ} {top n : ℕ} {v : List ℕ} {byte : ℕ} {x₁ s₁ :
     wasted = long-wasted m e
 
     pub place-spared : Spared s top s₂
-    place-spared = spared-on s₂ (wasted .same-length) (wasted .kept-below) (λ j k. wasted .kept-above j (omega (arith, used)))
+    place-spared = spared-on (record {
+      same-length = wasted .same-length;
+      kept-below = wasted .kept-below;
+      kept-above = λ j k. wasted .kept-above j (omega (arith, used));
+    })
 
     pub place-long : derived byte (vectorOf s n v) ≡ TooLong
     place-long =
@@ -243,74 +169,37 @@ module _ {x s : List ℕ} {top n : ℕ} {v : List ℕ} {byte : ℕ} {x₁ s₁ :
   module _ {s₂ : List ℕ} {root above : ℕ}
       (o : Got s₁ next s₂ root above (derivFit byte (term s₁ (getD v i 0))) (derivCells (term s₁ (getD v i 0)))) where
     new-short : short (o .value) ≡ true
-    new-short = fits-short byte (term s₁ (getD v i 0)) (o .value) (o .fits)
+    new-short = deriv-fits-short byte (term s₁ (getD v i 0)) (o .value) (o .fits)
 
     new-shape : InShape (o .value)
     new-shape = rw (deriv-short byte (term s₁ (getD v i 0)) (o .value) (o .fits)) (shape-deriv byte (term s₁ (getD v i 0)) old-shape)
 
-    new-size : size (term s₂ root) ≤ treeNodes
-    new-size = rw (o .makes .is) (short-size (o .value) new-short)
-
-    grown : GrownFree pending s₁ next s₂ above
-    grown = o .makes .grown
-
     pub place-puts : Puts x₁ s₂ next root
-    place-puts = record {
-      ready = record {
-        pooled = pooled (pool-same s₂ (g .done .pooled) (grown .kept-below) (grown .same-length));
-        indexed = indexed-same s₂ (g .indexed) (grown .kept-below);
-        room = omega (arith, low, d .long, g .spared .same-length, grown .same-length);
-        inside = low;
-      };
-      sound = sound-less (root + 1) (grown .sound) (omega (arith, o .makes .within));
-      small = new-size;
-    }
+    place-puts = term-puts (g .done .pooled) low o new-short (g .indexed) (omega (arith, d .long, g .spared .same-length))
 
     -- and put into the pool
     module _ {x₃ s₃ : List ℕ} {root′ next′ : ℕ}
         (p : Put s₂ next (termsOf s₂ next) x₃ s₃ root′ next′ (term s₂ root) (next + size (term s₂ root))) where
-      on : Same s₁ s₃ next
-      on j k = p .kept-below j k ∙ grown .kept-below j k
-
-      to-long : i < length to
-      to-long = omega (arith, g .done .numbers .whole, d .few-rules)
-
-      vector-now : vectorOf s₃ (i + 1) (set to i root′) ≡ vectorOf s₁ i to ++ (o .value ∷ [])
-      vector-now =
-          let e : vectorOf s₃ i to ≡ vectorOf s₁ i to =
-          vector-same-cells s₁ s₃ next i to (g .done .pooled .sound) on (omega (arith, d .few-rules)) (g .done .numbers) in
-          vector-set s₃ i to root′ to-long ∙ rw (e, p .is, o .makes .is)
-
-      pool-now : Pool s₃ next′ (withParts (termsOf s₁ next) (o .value))
-      pool-now = pool-as _ (p .pool) (rw (terms-frame s₁ s₂ next (g .done .pooled .sound) (grown .kept-below), o .makes .is))
+      more : More (withVector (termsOf s top) (vectorOf s₁ i to)) s₁ next i to (o .value) s₃ next′ (set to i root′)
+      more = term-more (g .done .pooled) low o new-short new-shape (g .done .shaped) (g .done .numbers) (omega (arith, d .few-rules)) used p
 
       terms-now : derived byte (vectorOf s (i + 1) v) ≡ Terms (vectorOf s₃ (i + 1) (set to i root′))
       terms-now =
           ap (derived byte) (vector-next s i v (omega (arith, d .numbers .whole, d .few-rules)))
           ∙ derived-snoc byte (vectorOf s i v) (term s (getD v i 0)) (vectorOf s₁ i to) (o .value) (g .done .terms) (rw (← old-term) (o .fits))
-          ∙ ap Terms (sym vector-now)
-
-      held-now : withParts (termsOf s₁ next) (o .value) ≡ withVector (termsOf s top) (vectorOf s₃ (i + 1) (set to i root′))
-      held-now =
-          rw (vector-now, with-snoc (termsOf s top) (vectorOf s₁ i to) (o .value))
-          (ap (λ (l : List Re). withParts l (o .value)) (g .done .pooled .holds))
+          ∙ ap Terms (sym (more .vector))
 
       pub place-more : Going s top n v byte x₃ s₃ next′ (set to i root′) (i + 1)
       place-more = record {
         within = omega arith;
         indexed = p .indexed;
-        spared = spared-on s₃ (p .same-length ∙ grown .same-length) on
-            (λ j k. p .kept-above j (omega (arith, low, new-size)) ∙ grown .kept-above j (omega (arith, used, o .makes .few)));
+        spared = spared-on (more .spared);
         done = record {
           terms = terms-now;
-          pooled = pool-as _ pool-now held-now;
-          shaped = shaped-put s₁ next s₃ next′ (o .value) (g .done .shaped) pool-now new-shape new-short;
-          numbers = record {
-            whole = length-set to i root′ ∙ g .done .numbers .whole;
-            inside = all-more (λ j a. a < next′) to i root′ to-long (λ j k. omega (arith, g .done .numbers .inside j k, p .up)) (p .within);
-            past = λ j k l. getD-set-other to i j root′ 0 (λ z. omega arith) ∙ g .done .numbers .past j (omega arith) l;
-          };
-          up = omega (arith, g .done .up, p .up);
-          few = omega (arith, g .done .few, p .few, new-size);
+          pooled = pool-as _ (more .pool) (rw (more .vector, with-snoc (termsOf s top) (vectorOf s₁ i to) (o .value)));
+          shaped = more .shaped;
+          numbers = more .numbers;
+          up = omega (arith, g .done .up, more .up);
+          few = omega (arith, g .done .few, more .few);
         };
       }

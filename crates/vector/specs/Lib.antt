@@ -6,4 +6,5 @@ pub mod Memory
 pub mod Promises
 pub mod PlaceLaws
 pub mod MemoryLaws
+pub mod PutLaws
 pub mod DeriveLaws

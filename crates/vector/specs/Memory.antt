@@ -1,18 +1,19 @@
 -- What the work area holds while a walk goes on: the pool, and the items in the order found, as walk has them.
--- `heldOf` reads it off the cells; `Kept` says that the cells are in order.
+-- `heldOf` reads it off the cells; `Kept` says that the cells are in order, and `First` that they hold the terms of one vector and no item yet.
 use Prim.Native.Nat.{ℕ, zero, suc, _+_, _*_, _<_, _≤_}
 use mathlib.Core.Path.{_≡_}
 use mathlib.Core.Bool.{true, cond}
 use mathlib.Core.List.{List, [], _∷_, _++_}
 use lib.Dec.{eqb}
 use lib.ListN.{length, getD, take, drop}
-use Rattle.number.specs.Limits.{rules, bytes, workCells}
+use Rattle.number.specs.Limits.{rules, bytes, treeNodes, workCells}
 use Rattle.meaning.specs.Re.{Text}
 use Rattle.meaning.specs.Limited.{short}
 use Rattle.meaning.specs.Shape.{InShape}
 use Rattle.term.specs.Cells.{term}
 use Rattle.pool.specs.Pooled.{termsOf, Pool}
 use Rattle.pool.specs.Index.{poolCells}
+use Rattle.walk.specs.Parts.{withVector}
 use Rattle.walk.specs.Walk.{Item, Held}
 use Rattle.vector.specs.Layout.{nothingCell, vectorsAt, sheetsAt, parentsAt, bytesAt, workLength}
 use Rattle.vector.specs.Vectors.{vectorOf, Numbers}
@@ -55,3 +56,10 @@ pub record Kept (s : List ℕ) (n top count : ℕ) : Type 0 where
   pub numbers : (k : ℕ) → k < count → Numbers n top (numbersAt s k)
   pub parents : (k : ℕ) → 0 < k → k < count → getD s (parentsAt + k) 0 < k
   pub text-bytes : (k : ℕ) → k < count → getD s (bytesAt + k) 0 < bytes
+
+-- the first n places of vector 0 stand in the pool with all their parts, and nothing else does; no item is held yet
+pub record First (s : List ℕ) (n top : ℕ) (v : List ℕ) : Type 0 where
+  pub kept : Kept s n top 0
+  pub numbers : Numbers n top v
+  pub holds : termsOf s top ≡ withVector [] (vectorOf s n v)
+  pub few : top ≤ n * treeNodes

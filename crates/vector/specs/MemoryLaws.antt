@@ -30,15 +30,9 @@ use Rattle.vector.specs.PlaceLaws.{vector-length, vector-at}
 
 -- ---- vectors
 
--- numbers of a pool of short terms can be read
-pub reads : {s : List ℕ} {top n : ℕ} {v : List ℕ} → Sound s top → Shaped s top → n ≤ rules → Numbers n top v → Reads s n v
-reads ok shaped h m =
-    record {
-      few-rules = h;
-      whole = m .whole;
-      sound = λ i k. sound-less _ ok (omega (arith, m .inside i k));
-      is-short = λ i k. shaped _ (m .inside i k) .1;
-    }
+-- numbers of a pool can be read
+pub reads : {s : List ℕ} {top n : ℕ} {v : List ℕ} → Sound s top → n ≤ rules → Numbers n top v → Reads s n v
+reads ok h m = record { few-rules = h; whole = m .whole; sound = λ i k. sound-less _ ok (omega (arith, m .inside i k)) }
 
 pub numbers-more : {n top : ℕ} {v : List ℕ} (top′ : ℕ) → Numbers n top v → top ≤ top′ → Numbers n top′ v
 numbers-more top′ m h = record { whole = m .whole; inside = λ i k. omega (arith, m .inside i k); past = m .past }

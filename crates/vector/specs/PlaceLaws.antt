@@ -1,6 +1,6 @@
 -- Laws for loops that go over a vector place by place: what held of the places passed holds of one more.
 -- The terms of a vector by place, its label and its next edge too.
-use Prim.Native.Nat.{ℕ, zero, suc, _+_, _<_, _≤_, min}
+use Prim.Native.Nat.{ℕ, zero, suc, _+_, _-_, _<_, _≤_, min}
 use native.Mathlib.Numerals.{add-one}
 use native.Mathlib.Omega.{arith}
 use mathlib.Core.Path.{_≡_, refl, sym, ap, subst, _∙_}
@@ -15,7 +15,7 @@ use Rattle.meaning.specs.Re.Re.{Nothing}
 use Rattle.meaning.specs.Derive.{nullable}
 use Rattle.meaning.specs.Rules.{label, labelFrom}
 use Rattle.meaning.specs.Edges.{nextEdge, nextEdgeAll}
-use Rattle.meaning.specs.EdgeLaws.{edge-all-within}
+use Rattle.meaning.specs.EdgeLaws.{edge-none, edge-more, edge-all-within}
 use Rattle.term.specs.Cells.{term}
 use Rattle.vector.specs.Vectors.{vectorOf}
 use Rattle.vector.specs.Promises.{Reads}
@@ -59,38 +59,48 @@ vector-length s n v h = map-length (term s) (take n v) ∙ length-take-le n v h
 pub vector-at : (s : List ℕ) (n : ℕ) (v : List ℕ) (i : ℕ) → n ≤ length v → i < n → getD (vectorOf s n v) i Nothing ≡ term s (getD v i 0)
 vector-at s n v i h k = map-at (term s) (take n v) i (omega (arith, length-take-le n v h)) ∙ ap (term s) (getD-take n v i 0 k)
 
--- ---- its label: that of what remains is that of the whole, until a term matches the empty text
-
--- the label of what remains after the first i terms
-abbrev pub LabelLeft : List ℕ → ℕ → List ℕ → ℕ → Type 0
-LabelLeft s n v i = label (vectorOf s n v) ≡ labelFrom i (drop i (vectorOf s n v))
-
-module _ (s : List ℕ) (n : ℕ) (v : List ℕ) (i : ℕ) (b : Bool) (ok : Reads s n v) (h : i < n) (l : LabelLeft s n v i)
-    (e : b ≡ nullable (term s (getD v i 0))) where
-  here : labelFrom i (drop i (vectorOf s n v)) ≡ cond b (suc i) (labelFrom (suc i) (drop (suc i) (vectorOf s n v)))
-  unfolding labelFrom
-  here =
-      let k : i < length (vectorOf s n v) = omega (arith, ok .whole, ok .few-rules, vector-length s n v (omega (arith, ok .whole, ok .few-rules))) in
-      let f : nullable (getD (vectorOf s n v) i Nothing) ≡ b = ap nullable (vector-at s n v i (omega (arith, ok .whole, ok .few-rules)) h) ∙ sym e in
-      rw (drop-cons (vectorOf s n v) i Nothing k, labelFrom, f)
-
-  pub label-found : b ≡ true → i + 1 ≡ label (vectorOf s n v)
-  label-found t = add-one i ∙ sym (l ∙ here ∙ rw t)
-
-  pub label-next : b ≡ false → LabelLeft s n v (i + 1)
-  label-next t = l ∙ here ∙ rw (t, add-one)
-
 drop-none : (w : List Re) (i : ℕ) → length w ≤ i → drop i w ≡ []
 drop-none [] zero h = refl
 drop-none [] (suc i) h = refl
 drop-none (x ∷ w) zero h = absurd (omega arith)
 drop-none (x ∷ w) (suc i) h = drop-none w i (omega arith)
 
-pub label-none : (s : List ℕ) (n : ℕ) (v : List ℕ) → Reads s n v → LabelLeft s n v n → 0 ≡ label (vectorOf s n v)
-unfolding labelFrom
-label-none s n v ok l =
-    let e : length (vectorOf s n v) ≡ n = vector-length s n v (omega (arith, ok .whole, ok .few-rules)) in
-    sym (l ∙ rw (drop-none (vectorOf s n v) n (omega arith), labelFrom))
+-- ---- the label of a part: that of what remains is that of the whole part, until a term matches the empty text
+
+module _ (s : List ℕ) (from to : ℕ) (v : List ℕ) where
+  abbrev terms : List Re
+  terms = vectorOf s to v
+
+  -- the label of what remains from place i on
+  abbrev pub LabelLeft : ℕ → Type 0
+  LabelLeft i = label (drop from terms) ≡ labelFrom (i - from) (drop i terms)
+
+  pub label-first : LabelLeft from
+  label-first = let e : from - from ≡ 0 = omega arith in rw e
+
+  module _ (ok : Reads s to v) where
+    long : to ≤ length v
+    long = omega (arith, ok .whole, ok .few-rules)
+
+    module _ (i : ℕ) (b : Bool) (h : i < to) (l : LabelLeft i) (e : b ≡ nullable (term s (getD v i 0))) where
+      here : labelFrom (i - from) (drop i terms) ≡ cond b (suc (i - from)) (labelFrom (suc (i - from)) (drop (suc i) terms))
+      unfolding labelFrom
+      here =
+          let k : i < length terms = omega (arith, vector-length s to v long) in
+          let f : nullable (getD terms i Nothing) ≡ b = ap nullable (vector-at s to v i long h) ∙ sym e in
+          rw (drop-cons terms i Nothing k, labelFrom, f)
+
+      pub label-found : b ≡ true → i - from + 1 ≡ label (drop from terms)
+      label-found t = add-one (i - from) ∙ sym (l ∙ here ∙ rw t)
+
+      pub label-next : b ≡ false → from ≤ i → LabelLeft (i + 1)
+      label-next t m = let j : suc (i - from) ≡ i + 1 - from = omega arith in l ∙ here ∙ rw (t, j, add-one)
+
+    pub label-none : LabelLeft to → 0 ≡ label (drop from terms)
+    unfolding labelFrom
+    label-none l =
+        let e : length terms ≡ to = vector-length s to v long in
+        sym (l ∙ rw (drop-none terms to (omega arith), labelFrom))
 
 -- ---- its next edge: the least of those passed and those that remain
 
@@ -105,10 +115,10 @@ least-first s n v byte = record { most = omega arith; whole = omega (arith, edge
 module _ (s : List ℕ) (n : ℕ) (v : List ℕ) (byte i least edge : ℕ) (ok : Reads s n v) (h : i < n) (e : edge ≡ nextEdge byte (term s (getD v i 0)))
     (l : Least s n v byte i least) where
   least-split : nextEdgeAll byte (drop i (vectorOf s n v)) ≡ min edge (nextEdgeAll byte (drop (i + 1) (vectorOf s n v)))
-  unfolding nextEdgeAll
   least-split =
       let m : n ≤ length v = omega (arith, ok .whole, ok .few-rules) in
-      rw (drop-cons (vectorOf s n v) i Nothing (omega (arith, vector-length s n v m)), nextEdgeAll, add-one, vector-at s n v i m h, e)
+      ap (nextEdgeAll byte) (drop-cons (vectorOf s n v) i Nothing (omega (arith, vector-length s n v m)))
+      ∙ edge-more byte (getD (vectorOf s n v) i Nothing) (drop (suc i) (vectorOf s n v)) ∙ rw (add-one, vector-at s n v i m h, e)
 
   pub least-new : edge < least → Least s n v byte (i + 1) edge
   least-new k = record { most = omega (arith, l .most); whole = omega (arith, l .whole, least-split) }
@@ -117,8 +127,7 @@ module _ (s : List ℕ) (n : ℕ) (v : List ℕ) (byte i least edge : ℕ) (ok :
   least-old k = record { most = l .most; whole = omega (arith, l .whole, least-split) }
 
 pub least-last : (s : List ℕ) (n : ℕ) (v : List ℕ) (byte least : ℕ) → Reads s n v → Least s n v byte n least → least ≡ nextEdgeAll byte (vectorOf s n v)
-unfolding nextEdgeAll
 least-last s n v byte least ok l =
     let k : length (vectorOf s n v) ≡ n = vector-length s n v (omega (arith, ok .whole, ok .few-rules)) in
-    let e : nextEdgeAll byte (drop n (vectorOf s n v)) ≡ bytes = rw (drop-none (vectorOf s n v) n (omega arith), nextEdgeAll) in
+    let e : nextEdgeAll byte (drop n (vectorOf s n v)) ≡ bytes = rw (drop-none (vectorOf s n v) n (omega arith)) (edge-none byte) in
     omega (arith, l .whole, l .most)

@@ -29,11 +29,15 @@ pub record Within (s : List ℕ) (k : ℕ) : Type 0 where
   pub long : workLength ≤ length s
   pub few : k < items
 
--- the first n terms of a vector can be read, and are short
+-- the first n terms of a vector can be read
 pub record Reads (s : List ℕ) (n : ℕ) (v : List ℕ) : Type 0 where
   pub few-rules : n ≤ rules
   pub whole : length v ≡ rules
   pub sound : (i : ℕ) → i < n → Sound s (getD v i 0 + 1)
+
+-- and are short
+pub record ReadsShort (s : List ℕ) (n : ℕ) (v : List ℕ) : Type 0 where
+  pub reads : Reads s n v
   pub is-short : (i : ℕ) → i < n → short (term s (getD v i 0)) ≡ true
 
 -- a vector of pool terms to derive, with the pool's index

@@ -2,14 +2,14 @@
 // A derived term is built in scratch, put into the pool, and its number taken: equal vectors have equal numbers.
 ghost use mathlib.Core.Path.{_≡_};
 ghost use Prim.Native.Nat.{_≤_};
-ghost use lib.ListN.{length, replicate};
+ghost use lib.ListN.{length, drop, replicate};
 ghost use Rattle.vector.specs.Layout.{items, workLength};
 ghost use Rattle.number.specs.Limits.{lastByte};
 ghost use Rattle.meaning.specs.Rules.{label};
 ghost use Rattle.meaning.specs.Edges.{nextEdgeAll};
 ghost use Rattle.vector.specs.Vectors.{vectorOf};
 ghost use Rattle.vector.specs.Memory.{numbersAt};
-ghost use Rattle.vector.specs.Promises.{Tells, Within, Reads, Derivable, Derives, PairTold, Finds, vectorStored, itemStored};
+ghost use Rattle.vector.specs.Promises.{Tells, Within, Reads, ReadsShort, Derivable, Derives, PairTold, Finds, vectorStored, itemStored};
 use normal::Made;
 use number::limits::BYTES;
 use number::limits::RULES;
@@ -77,17 +77,18 @@ fn store(cells: &mut [u64], k: usize, v: Vector)
     }
 }
 
-// The label of a vector of `n` rules: 1 plus the first whose term matches the empty text, or 0.
-pub fn label_of(cells: &[u64], v: Vector, n: usize) -> usize
-    requires { ⌜ Reads (now cells) n (v .at) ⌝ }
-    ensures { λ r. ⌜ r ≡ label (vectorOf (now (cells .entry)) n (v .at)) ⌝ }
+// The label of a vector's part, the rules from `from` up to `to`: 1 plus the first of them whose term matches the empty text, or 0.
+pub fn label_of(cells: &[u64], v: Vector, from: usize, to: usize) -> usize
+    requires { ⌜ Reads (now cells) to (v .at) ⌝ }
+    requires { ⌜ from ≤ to ⌝ }
+    ensures { λ r. ⌜ r ≡ label (drop from (vectorOf (now (cells .entry)) to (v .at))) ⌝ }
 {
     let at = v.at;
-    let mut left = n;
+    let mut left = to - from;
     while 0 < left {
-        let i = n - left;
+        let i = to - left;
         if term::nullable(cells, at[i]) {
-            return i + 1;
+            return i - from + 1;
         }
         left -= 1;
     }
@@ -96,7 +97,7 @@ pub fn label_of(cells: &[u64], v: Vector, n: usize) -> usize
 
 // The next byte after `byte` at which a term of the vector can change its derivative, or the number of bytes if there is none.
 pub fn edge_of(cells: &[u64], v: Vector, n: usize, byte: usize) -> usize
-    requires { ⌜ Reads (now cells) n (v .at) ⌝ }
+    requires { ⌜ ReadsShort (now cells) n (v .at) ⌝ }
     requires { ⌜ byte ≤ lastByte ⌝ }
     ensures { λ r. ⌜ r ≡ nextEdgeAll byte (vectorOf (now (cells .entry)) n (v .at)) ⌝ }
 {

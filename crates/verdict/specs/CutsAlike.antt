@@ -21,10 +21,9 @@ use Rattle.cutting.specs.declared.Word.{Word}
 use Rattle.cutting.specs.Steps.{labelOf, Labels, FirstBy, firstBy}
 use Rattle.cutting.specs.Cut.{Cut, wordAt, Cuts, cutBy}
 use Rattle.cutting.specs.Cut.Cuts.{stuck, word}
-use Rattle.cutting.specs.CutLaws.{first-by, cut-is, cut-alike}
+use Rattle.cutting.specs.CutLaws.{by-table, cut-is, cut-alike, bytes-take, bytes-drop}
 use Rattle.walk.specs.Texts.{Sooner}
 use Rattle.walk.specs.TextLaws.{sooner-self, not-later-sooner, sooner-drop, sooner-take}
-use Rattle.built.specs.BuildLaws.{bytes-take, bytes-drop}
 use Rattle.verdict.specs.Demand.{CutAlike, WholeAlike}
 use Rattle.verdict.specs.CompareLaws.{Agree, Shown}
 
@@ -75,9 +74,6 @@ module _ (N M : Text → ℕ → Type 0) (only : (w : Text) (l m : ℕ) → N w 
 module _ (rs : List Re) (t : Table) where
   -- ---- from labels to cuts
 
-  table-cut : (room at : ℕ) (text : Text) → Cuts (FirstBy t) room at text (cutBy (firstBy t) room at text)
-  table-cut = cut-is (FirstBy t) (firstBy t) (first-by t)
-
   module _ (P : Text → Type 0) (dropped : (n : ℕ) (text : Text) → P text → P (drop n text))
       (agree : (text : Text) → P text → (m : ℕ) → 0 < m → m ≤ length text → labelAfter rs (take m text) ≡ labelOf t (take m text)) where
     to-book : (text : Text) → P text → (f : Found) → FirstBy t text f → FirstWord rs text f
@@ -87,7 +83,7 @@ module _ (rs : List Re) (t : Table) where
 
     alike-on : (room at : ℕ) (text : Text) → P text → CutAlike rs t room at text
     alike-on room at text p =
-        let c = table-cut room at text in
+        let c = cut-is (by-table t) room at text in
         (cutBy (firstBy t) room at text, cut-alike (FirstBy t) (FirstWord rs) P dropped to-book p c, c)
 
   pub cuts-agree : Agree rs t → (room at : ℕ) (text : Text) → Bytes text → CutAlike rs t room at text

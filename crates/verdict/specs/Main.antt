@@ -21,6 +21,7 @@ use Rattle.book.specs.Reads.{readBook}
 use Rattle.book.specs.Expression.{meant}
 use Rattle.table.specs.Table.{Table, lent, wellFormed}
 use Rattle.cutting.specs.Cut.{Cut, Cuts, cutBy}
+use Rattle.cutting.specs.CutLaws.{by-rules, cut-exactly}
 use Rattle.walk.specs.Bought.{OwnRefusal}
 use Rattle.walk.specs.Passing.{Limits}
 use Rattle.built.specs.Calls.{buildBook, buildOf}
@@ -31,13 +32,13 @@ use Rattle.verdict.specs.Calls.{compared, compareBook, Comparison, compa
 use Rattle.verdict.specs.Calls.Told.{same, differs}
 use Rattle.verdict.specs.Demand.{CutAlike, WholeAlike, Differ, heldPairs}
 use Rattle.verdict.specs.Called.{Roomy, Short, Refuses, Answered, OneText}
-use Rattle.verdict.specs.VerdictLaws.{book-cut, same-alike, same-exactly, shown-differs, limits-at, wider-answered, wider-long, own-table}
+use Rattle.verdict.specs.VerdictLaws.{same-alike, same-exactly, shown-differs, limits-at, wider-answered, wider-long, own-table}
 use Rattle.verdict.specs.CallLaws.{text-one, short-room, ill-formed, book-refused, call-answered, own-call}
 use Rattle.verdict.specs.Sample.{WorkedSheets, worked-sheets, WorkedAnswers, worked-answers, WorkedRefusals, worked-refusals}
 
 -- a text has exactly one cut by a book's rules, as it has by a table (cutting, the-cut)
 pub the-book-cut : (rs : List Re) (room at : ℕ) (text : Text) (x : Cut) → Cuts (FirstWord rs) room at text x ↔ (cutBy (firstWord rs) room at text ≡ x)
-the-book-cut = book-cut
+the-book-cut rs = cut-exactly (by-rules rs)
 
 module _ (file : List ℕ) (b : Book) (after : ℕ) (t : Table) (read : readBook file ≡ got b after) where
   -- Same is answered only where both cut every text alike, from every place and with every room

@@ -15,15 +15,11 @@ use Rattle.number.specs.Refused.Outcome.{gives, refuses}
 use Rattle.meaning.specs.Re.{Re, Text}
 use Rattle.meaning.specs.Rules.{labelAfter}
 use Rattle.meaning.specs.RulesMean.{names-after}
-use Rattle.meaning.specs.Words.{FirstWord, firstWord}
-use Rattle.meaning.specs.WordsMean.{first-word, one-first-word}
 use Rattle.book.specs.Book.{Book}
 use Rattle.book.specs.Reads.{readBook}
 use Rattle.book.specs.Expression.{meant}
 use Rattle.table.specs.Table.{Table}
 use Rattle.cutting.specs.Steps.{labelOf}
-use Rattle.cutting.specs.Cut.{Cut, Cuts, cutBy}
-use Rattle.cutting.specs.CutLaws.{cut-is, cut-one}
 use Rattle.walk.specs.Walk.{Way}
 use Rattle.walk.specs.Passing.{Limits}
 use Rattle.walk.specs.WiderLaws.{wider-gives, wider-refuses, long-stays}
@@ -38,11 +34,6 @@ use Rattle.verdict.specs.CutsAlike.{cuts-agree, cuts-label, shown-cuts, 
 use Rattle.verdict.specs.OwnSheet.{own-same}
 
 -- ---- cuts and labels
-
-pub book-cut : (rs : List Re) (room at : ℕ) (text : Text) (x : Cut) → Cuts (FirstWord rs) room at text x ↔ (cutBy (firstWord rs) room at text ≡ x)
-book-cut rs room at text x =
-    let c = cut-is (FirstWord rs) (firstWord rs) (first-word rs) room at text in
-    (λ d. cut-one (FirstWord rs) (one-first-word rs) c d, λ e. rw (← e) c)
 
 agree-on : (rs : List Re) (t : Table) (w : Text) → labelAfter rs w ≡ labelOf t w → AgreeOn rs t w
 agree-on rs t w e = rw (← e) (names-after rs w)

@@ -5,8 +5,8 @@ use mathlib.Core.Path.{_≡_}
 use mathlib.Core.Bool.{Bool, true, false, cond, _||_}
 use mathlib.Core.List.{List, [], _∷_, _++_}
 use lib.ListN.{length, getD}
-use Rattle.meaning.specs.Re.{Re}
-use Rattle.meaning.specs.Re.Re.{Nothing, Empty, Range, Cat, Alt, Star}
+use Rattle.meaning.specs.Re.{Re, parts, upward}
+use Rattle.meaning.specs.Re.Re.{Nothing}
 use Rattle.walk.specs.Vectors.{sameTerm}
 
 -- a term stands in a pool
@@ -18,14 +18,15 @@ holds (y ∷ ys) x = sameTerm y x || holds ys x
 unfoldable pub withTerm : List Re → Re → List Re
 withTerm pool x = cond (holds pool x) pool (pool ++ (x ∷ []))
 
+-- the parts are put into the pool in turn, then the term; of each part it is told what puts it
+abbrev pub behind : Re → List (List Re → List Re) → List Re → List Re
+behind r [] pool = withTerm pool r
+behind r (put ∷ puts) pool = behind r puts (put pool)
+
 -- a term and all its parts, parts first
 unfoldable pub withParts : List Re → Re → List Re
-withParts pool Nothing = withTerm pool Nothing
-withParts pool Empty = withTerm pool Empty
-withParts pool (Range lo hi) = withTerm pool (Range lo hi)
-withParts pool (Cat a b) = withTerm (withParts (withParts pool a) b) (Cat a b)
-withParts pool (Alt a b) = withTerm (withParts (withParts pool a) b) (Alt a b)
-withParts pool (Star a) = withTerm (withParts pool a) (Star a)
+unfolding upward
+withParts pool r = upward behind r pool
 
 -- all components of a vector
 unfoldable pub withVector : List Re → List Re → List Re
@@ -34,18 +35,10 @@ withVector pool (r ∷ rs) = withVector (withParts pool r) rs
 
 -- ---- what the pool holds, in words of its own
 
--- x is r, or a part of one of its children
-pub data Part (x : Re) : Re → Type 0 where
-  whole : {r : Re} → x ≡ r → Part x r
-  cat-left : {a b : Re} → Part x a → Part x (Cat a b)
-  cat-right : {a b : Re} → Part x b → Part x (Cat a b)
-  alt-left : {a b : Re} → Part x a → Part x (Alt a b)
-  alt-right : {a b : Re} → Part x b → Part x (Alt a b)
-  star-in : {a : Re} → Part x a → Part x (Star a)
-
--- x is a part of one of the components
+-- x is one of these, or a part of one
 pub data PartOf (x : Re) : List Re → Type 0 where
-  here : {r : Re} {rs : List Re} → Part x r → PartOf x (r ∷ rs)
+  here : {r : Re} {rs : List Re} → x ≡ r → PartOf x (r ∷ rs)
+  inside : {r : Re} {rs : List Re} → PartOf x (parts r) → PartOf x (r ∷ rs)
   later : {r : Re} {rs : List Re} → PartOf x rs → PartOf x (r ∷ rs)
 
 -- a term stands in a pool, as a fact
@@ -58,4 +51,4 @@ pub record Once (p : List Re) : Type 0 where
 
 -- with a term it holds the term's parts
 pub record Closed (p : List Re) : Type 0 where
-  pub parts : (x r : Re) → InPool p r → Part x r → InPool p x
+  pub inner : (x r : Re) → InPool p r → PartOf x (parts r) → InPool p x

@@ -7,7 +7,7 @@ use mathlib.Core.Path.{_≡_, sym}
 use mathlib.Core.List.{List, [], _∷_, _++_}
 use lib.ListN.{length, getD, take, drop, length-append, length-take}
 use lib.Seq.{slice, slice-cons, slice-empty, length-slice, length-take-le, take-add, take-take, drop-at, drop-drop}
-use Rattle.number.specs.Limits.{version, bytes}
+use Rattle.number.specs.Limits.{sheetVersion, bytes}
 use Rattle.number.specs.Numbers.{writeNumber}
 use Rattle.number.specs.NumberLaws.{width-most}
 use Rattle.number.specs.Lists.{Writes, writes-none, writes-then}
@@ -74,14 +74,14 @@ part-states-short labels targets i count h =
 
 module _ (labels targets : List ℕ) (count : ℕ) where
   pub sheet-is : length (writeSheet (lent count labels targets))
-      ≡ length (writeNumber version) + length (writeNumber count)
+      ≡ length (writeNumber sheetVersion) + length (writeNumber count)
       + length (writeStates (take count labels) (take (count * bytes) targets))
   unfolding writeSheet
   sheet-is = simp length-append (omega arith)
 
   -- the version, the count of states, and the states
   pub sheet-written : {s s1 s2 s3 : List ℕ} {at mid next last : ℕ} → at ≤ length s → mid ≤ length s1
-      → Writes (writeNumber version) s s1 at mid → Writes (writeNumber count) s1 s2 mid next
+      → Writes (writeNumber sheetVersion) s s1 at mid → Writes (writeNumber count) s1 s2 mid next
       → Writes (writeStates (take count labels) (take (count * bytes) targets)) s2 s3 next last
       → Writes (writeSheet (lent count labels targets)) s s3 at last
   unfolding writeSheet

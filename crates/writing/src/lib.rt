@@ -11,7 +11,7 @@ ghost use Rattle.table.specs.Sheet.{writeStates, writeSheet};
 ghost use Rattle.table.specs.Promises.{WritesSheet};
 use number::Refusal;
 use number::limits::BYTES;
-use number::limits::VERSION;
+use number::limits::SHEET_VERSION;
 use table::Written;
 
 // How many bytes the states from i on take.
@@ -37,7 +37,7 @@ fn sheet_length<'a>(count: usize, labels: &'a [u8], targets: &'a [u8]) -> usize
     requires { ⌜ (count ≤ states) × (count ≤ length (now labels)) × (count * bytes ≤ length (now targets)) ⌝ }
     ensures { λ n. ⌜ n ≡ length (writeSheet (lent count (now (labels .entry)) (now (targets .entry)))) ⌝ }
 {
-    let head = number::number_width(VERSION) + number::number_width(count);
+    let head = number::number_width(SHEET_VERSION) + number::number_width(count);
     head + states_length(count, 0, labels, targets)
 }
 
@@ -80,7 +80,7 @@ pub fn write_sheet<'a>(count: usize, labels: &'a [u8], targets: &'a [u8], out: &
     if out.len() < sheet_length(count, labels, targets) {
         return Written::Unwritten(Refusal::Room);
     }
-    let at_count = number::write_number(VERSION, out, 0);
+    let at_count = number::write_number(SHEET_VERSION, out, 0);
     let at_states = number::write_number(count, out, at_count);
     let end = write_states(count, 0, labels, targets, out, at_states);
     Written::Bytes(end)

@@ -15,7 +15,7 @@ enum-known-checked-2 : tie.Need-enum-known-checked-2
 enum-known-checked-2 c = search needs
 
 build-rules-requires : tie.Need-build-rules-requires
-build-rules-requires c κs = (book-opened _ (c .before .before .before .before .before .before .check-book .ensures .answer) (c .before .before .before .before .checked2 .given .1) (c .before .before .before .before .before .before .before .before .before .before .before .pre), c .before .before .before .before .before .before .before .before .before .before .before .pre)
+build-rules-requires c κs = (book-opened _ (c .before .before .before .before .before .before .check-book .ensures .answer) (c .before .before .before .before .checked2 .given .1), c .before .before .before .before .before .before .before .before .before .before .before .pre)
 
 returns : tie.Need-returns
 returns c = book-refused _ (c .before .before .before .check-book .ensures .answer) (c .before .checked .given .1)

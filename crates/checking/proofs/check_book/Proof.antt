@@ -1,7 +1,7 @@
 -- `checking::check_book` meets its contract: each return is one law of a whole book, with what was read up to there.
 -- Assumes nothing.
 use mathlib.Core.Path.{_≡_, sym, ap}
-use Rattle.number.specs.Limits.{version, lastVersion}
+use Rattle.number.specs.Limits.{firstVersion, lastVersion}
 use Rattle.number.specs.Numbers.{field}
 use Rattle.number.specs.Refused.Answer.{got}
 use Rattle.book.specs.Calls.{sizeOf}
@@ -25,7 +25,7 @@ start-of c = version-of c .before .before .before .before .before
 
 -- past the first `let .. else`, the second and the third
 version-read : (c : tie.After-known-told)
-    → field (c .before .before .before .before .before .args .book .now) version lastVersion 0
+    → field (c .before .before .before .before .before .args .book .now) firstVersion lastVersion 0
     ≡ got (c .before .version .given .0 .0) (c .before .version .given .0 .1 .0)
 version-read c = value-told (c .before .before .before .read-field .ensures .answer) (c .before .version .given .1)
 

@@ -15,14 +15,14 @@ use Rattle.checking.proofs.check_nodes.Tie as tie
 
 -- the rest is refused as the whole is; where it is got, the whole has the nodes read before it as well
 abbrev Inv-loop : tie.InvT-loop
-Inv-loop book at version left terms place₀ more₀ standing₀ place more standing =
+Inv-loop book at version count place₀ more₀ standing₀ place more standing =
     (standing + more ≤ nodes)
-    × ((r : Refusal) → counted book version more standing place ≡ refused r → counted book version left terms at ≡ refused r)
-    × ((n all after : ℕ) → all + more ≡ left + n → counted book version more standing place ≡ got n after
-    → counted book version left terms at ≡ got all after)
+    × ((r : Refusal) → counted book version more standing place ≡ refused r → counted book version count 0 at ≡ refused r)
+    × ((n all after : ℕ) → all + more ≡ count + n → counted book version more standing place ≡ got n after
+    → counted book version count 0 at ≡ got all after)
 
 abbrev μ-loop : tie.MeasureT-loop
-μ-loop book at version left terms place₀ more₀ standing₀ place more standing = more
+μ-loop book at version count place₀ more₀ standing₀ place more standing = more
 
 -- past the `let .. else`: the node that was read
 node-read : (c : tie.After-node Inv-loop μ-loop)

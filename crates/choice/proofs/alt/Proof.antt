@@ -1,11 +1,28 @@
 -- `choice::alt` meets its contract: Nothing on a side gives the other side, and all else is the merge.
 -- Assumes nothing.
+use Rattle.meaning.specs.declared.Join.the-variants.{Or}
+use Rattle.term.specs.Nodes.{Found}
 use Rattle.term.specs.CellLaws.{found}
 use Rattle.normal.specs.NodeLaws.{told-nothing}
-use Rattle.choice.specs.UniteLaws.{alt-none-left, alt-none-right, alt-both}
+use Rattle.choice.specs.Asked.{Sides}
+use Rattle.choice.specs.UniteLaws.{alt-none-left, alt-none-right, alt-asks, alt-both}
 use borrow.Author.Needs.{needs}
 use Rattle.choice.proofs.alt.Statement.{statement}
 use Rattle.choice.proofs.alt.Tie as tie
+
+-- what was asked, and what the two nodes tell
+module _ (c : tie.After-node-at2) where
+  abbrev start : tie.Start
+  start = c .before .before .before .before .before
+
+  asked : Sides Or (start .args .cells .now) (start .args .top) (start .args .a) (start .args .b)
+  asked = start .pre
+
+  x : Found (start .args .cells .now) (start .args .a) (c .before .before .node-at .result)
+  x = found _ _ _ _ (asked .sound) (asked .left) (c .before .before .node-at .ensures)
+
+  y : Found (start .args .cells .now) (start .args .b) (c .node-at2 .result)
+  y = found _ _ _ _ (asked .sound) (asked .right) (c .node-at2 .ensures)
 
 node-at-requires : tie.Need-node-at-requires
 node-at-requires c κs = search needs
@@ -20,9 +37,9 @@ same-length : tie.Need-same-length
 same-length c = search needs
 
 returns : tie.Need-returns
-returns c = alt-none-left (c .before .before .before .before .before .before .before .pre) (told-nothing (found _ _ _ _ (c .before .before .before .before .before .before .before .pre .sound)
-    (c .before .before .before .before .before .before .before .pre .left) (c .before .before .before .before .node-at .ensures)) (c .before .is-nothing .ensures)
-    (c .if1 .taken))
+returns c =
+    let n = c .before .before in
+    alt-none-left (asked n) (told-nothing (x n) (c .before .is-nothing .ensures) (c .if1 .taken))
 
 is-nothing-requires-2 : tie.Need-is-nothing-requires-2
 is-nothing-requires-2 c κs = search needs
@@ -31,30 +48,25 @@ same-length-2 : tie.Need-same-length-2
 same-length-2 c = search needs
 
 returns-2 : tie.Need-returns-2
-returns-2 c = alt-none-right (c .before .before .before .before .before .before .before .before .before .pre) (told-nothing (found _ _ _ _ (c .before .before .before .before .before .before .before .before .before .pre .sound)
-    (c .before .before .before .before .before .before .before .before .before .pre .right) (c .before .before .before .before .node-at2 .ensures)) (c .before .is-nothing2 .ensures)
-    (c .if2 .taken))
+returns-2 c =
+    let n = c .before .before .before .before in
+    alt-none-right (asked n) (told-nothing (y n) (c .before .is-nothing2 .ensures) (c .if2 .taken))
 
 unite-requires : tie.Need-unite-requires
-unite-requires c κs = record {
-  choices = c .before .before .before .before .before .before .before .before .before .before .pre;
-  left-some =
-      (told-nothing (found _ _ _ _ (c .before .before .before .before .before .before .before .before .before .before .pre .sound) (c .before .before .before .before .before .before .before .before .before .before .pre .left)
-      (c .before .before .before .before .before .before .before .node-at .ensures)) (c .before .before .before .before .is-nothing .ensures) (c .before .before .before .if1 .left));
-  right-some = (told-nothing (found _ _ _ _ (c .before .before .before .before .before .before .before .before .before .before .pre .sound) (c .before .before .before .before .before .before .before .before .before .before .pre .right)
-      (c .before .before .before .before .before .node-at2 .ensures)) (c .before .before .is-nothing2 .ensures) (c .before .if2 .left));
-}
+unite-requires c κs =
+    let n = c .before .before .before .before .before in
+    alt-asks (asked n) (told-nothing (x n) (c .before .before .before .before .is-nothing .ensures) (c .before .before .before .if1 .left))
+    (told-nothing (y n) (c .before .before .is-nothing2 .ensures) (c .before .if2 .left))
 
 same-length-3 : tie.Need-same-length-3
 same-length-3 c = search needs
 
 returns-3 : tie.Need-returns-3
-returns-3 c = alt-both (c .before .before .before .before .before .before .before .before .before .before .before .before .before .pre) (told-nothing
-    (found _ _ _ _ (c .before .before .before .before .before .before .before .before .before .before .before .before .before .pre .sound) (c .before .before .before .before .before .before .before .before .before .before .before .before .before .pre .left)
-    (c .before .before .before .before .before .before .before .before .before .before .node-at .ensures)) (c .before .before .before .before .before .before .before .is-nothing .ensures)
-    (c .before .before .before .before .before .before .if1 .left)) (told-nothing (found _ _ _ _ (c .before .before .before .before .before .before .before .before .before .before .before .before .before .pre .sound)
-    (c .before .before .before .before .before .before .before .before .before .before .before .before .before .pre .right) (c .before .before .before .before .before .before .before .before .node-at2 .ensures))
-    (c .before .before .before .before .before .is-nothing2 .ensures) (c .before .before .before .before .if2 .left)) (c .before .before .unite .ensures)
+returns-3 c =
+    let d = c .before .before .before .before in
+    let n = d .before .before .before .before in
+    alt-both (asked n) (told-nothing (x n) (d .before .before .before .is-nothing .ensures) (d .before .before .if1 .left))
+    (told-nothing (y n) (d .before .is-nothing2 .ensures) (d .if2 .left)) (c .before .before .unite .ensures)
 
 pub alt-spec : {M : Type 1} → statement M
 alt-spec =

@@ -20,8 +20,8 @@ same-length c = search needs
 returns : tie.Need-returns
 returns c =
     let p = c .before .before .before .before .before .pre in
-    let x = found _ _ _ _ (p .choices .sound) (p .choices .left) (c .before .before .node-at .ensures) in
-    fits-made (alt-none-left (p .choices) (told-nothing x (c .before .is-nothing .ensures) (c .if1 .taken))) (p .choices .right-short)
+    let x = found _ _ _ _ (p .sides .sound) (p .sides .left) (c .before .before .node-at .ensures) in
+    fits-made (alt-none-left (p .sides) (told-nothing x (c .before .is-nothing .ensures) (c .if1 .taken))) (p .sides .right-short)
 
 node-at-requires-2 : tie.Need-node-at-requires-2
 node-at-requires-2 c κs = search needs
@@ -35,8 +35,8 @@ same-length-2 c = search needs
 returns-2 : tie.Need-returns-2
 returns-2 c =
     let p = c .before .before .before .before .before .before .before .before .before .pre in
-    let y = found _ _ _ _ (p .choices .sound) (p .choices .right) (c .before .before .node-at2 .ensures) in
-    fits-made (alt-none-right (p .choices) (told-nothing y (c .before .is-nothing2 .ensures) (c .if2 .taken))) (p .choices .left-short)
+    let y = found _ _ _ _ (p .sides .sound) (p .sides .right) (c .before .before .node-at2 .ensures) in
+    fits-made (alt-none-right (p .sides) (told-nothing y (c .before .is-nothing2 .ensures) (c .if2 .taken))) (p .sides .left-short)
 
 alt-requires : tie.Need-alt-requires
 alt-requires c κs = search needs

@@ -13,10 +13,10 @@ use Rattle.choice.proofs.unite.Statement.{statement}
 use Rattle.choice.proofs.unite.Tie as tie
 
 abbrev Inv-loop : tie.InvT-loop
-Inv-loop cells₀ top a b left₀ right₀ end₀ cells left right end = Uniting cells₀ top a b cells left right end
+Inv-loop cells₀ top a b join left₀ right₀ end₀ cells left right end = Uniting join cells₀ top a b cells left right end
 
 abbrev μ-loop : tie.MeasureT-loop
-μ-loop cells₀ top a b left₀ right₀ end₀ cells left right end = left + right
+μ-loop cells₀ top a b join left₀ right₀ end₀ cells left right end = left + right
 
 -- what is known in a turn that has looked at the first members: the loop as the turn began it, and what they tell
 module _ (c : tie.After-next-member Inv-loop μ-loop) where
@@ -26,18 +26,18 @@ module _ (c : tie.After-next-member Inv-loop μ-loop) where
   abbrev start : tie.Start Inv-loop μ-loop
   start = loop .before .before
 
-  asked : Unites (start .args .cells .now) (start .args .top) (start .args .a) (start .args .b)
+  asked : Unites (start .args .join) (start .args .cells .now) (start .args .top) (start .args .a) (start .args .b)
   asked = start .pre
 
-  uniting : Uniting (start .args .cells .now) (start .args .top) (start .args .a) (start .args .b) (loop .loop .cells) (loop .loop .left)
+  uniting : Uniting (start .args .join) (start .args .cells .now) (start .args .top) (start .args .a) (start .args .b) (loop .loop .cells) (loop .loop .left)
       (loop .loop .right) (loop .loop .end)
   uniting = loop .loop .inv
 
-  told : Goes (loop .loop .cells) (loop .loop .left) (loop .loop .right) (c .next-member .result)
+  told : Goes (start .args .join) (loop .loop .cells) (loop .loop .left) (loop .loop .right) (c .next-member .result)
   told = c .next-member .ensures
 
   small : loop .loop .end < length (loop .loop .cells) → loop .loop .end < workCells
-  small inside = omega (arith, inside, uniting .rest .choices .sound .small)
+  small inside = omega (arith, inside, uniting .rest .sound .small)
 
 loop-holds : tie.Need-loop-holds Inv-loop μ-loop
 loop-holds c = uniting-first (c .before .pre)

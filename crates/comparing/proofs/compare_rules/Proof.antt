@@ -1,12 +1,15 @@
 -- `comparing::compare_rules` meets its contract: the walk is refused, or what it found is shown.
 -- Assumes nothing.
+use native.Mathlib.Omega.{arith}
 use borrow.Author.Needs.{needs}
 use Rattle.comparing.specs.AnswerLaws.{rules-refused, rules-legible, rules-traced, rules-shown}
 use Rattle.comparing.proofs.compare_rules.Statement.{statement}
 use Rattle.comparing.proofs.compare_rules.Tie as tie
 
 walk-from-requires : tie.Need-walk-from-requires
-walk-from-requires c κs = search needs
+walk-from-requires c κs =
+    let p = c .before .before .before .before .before .before .pre in
+    (p .opened, (p .long, (p .small, (p .closed, omega (arith, p .some, p .rows)))))
 
 enum-known-went : tie.Need-enum-known-went
 enum-known-went c = search needs

@@ -52,10 +52,13 @@ use Rattle.table.specs.Table.{lent}
 use Rattle.cutting.specs.declared.Word.{Word}
 use Rattle.cutting.specs.declared.Place.{Place}
 use Rattle.cutting.specs.declared.Step.{Step}
-use Rattle.cutting.specs.Calls.{Recorded, cutFromOf}
-use Rattle.cutting.specs.Turns.{Ready, stepOf, firstStepOf}
-use Rattle.cutting.specs.TurnLaws.{Goes, Stands, stands-first, stands-next}
-use Rattle.cutting.specs.LayLaws.{overWords, layWords, words-none, words-put, words-whole}
+use Rattle.cutting.specs.Steps.{firstBy}
+use Rattle.cutting.specs.Calls.{Recorded, recorded, cutFromOf}
+use Rattle.cutting.specs.Turns.{stepOf}
+use Rattle.cutting.specs.Walk.{Ready, firstStepOf}
+use Rattle.cutting.specs.TurnLaws.{stands-next, turn}
+use Rattle.cutting.specs.FirstLaws.{StandsBy, stands-first}
+use Rattle.cutting.specs.LayLaws.{overWords, layWords, words-none, words-put, words-start}
 use Rattle.cutting.proofs.Word as word
 use Rattle.cutting.proofs.Word.Laws as word-laws
 use Rattle.cutting.proofs.Place as place
@@ -126,7 +129,7 @@ record Reached (count : ℕ) (labels targets text : List ℕ) (list : List Word)
   pub words : List Word
   pub decided : Step
   pub sized : length words ≡ length list
-  pub stands : Stands overWords layWords count labels targets text (length list) (cutFromOf count labels targets text 0 list) k decided words
+  pub stands : StandsBy overWords layWords count labels targets text (length list) (cutFromOf count labels targets text 0 list) k decided words
   pub typed : Is step.the-row decided (step-laws.lowered decided ∷ [])
 
 abbrev FirstStep : {M : Type 1} (𝓤 : URA M) (H : Heap 𝓤) (A : Atoms 𝓤) (mem : Memory → SProp 𝓤) (run : Routine → Fun 𝓤) → Contract 𝓤
@@ -304,7 +307,7 @@ module _ {M : Type 1} (𝓤 : URA M) (H : Heap 𝓤) (A : Atoms 𝓤) (W : Given
   firstly = firstStepOf count (labels .now) (targets .now) (text .now) 0 n
 
   abbrev nextly : Place → ℕ → Step
-  nextly p k = stepOf (lent count (labels .now) (targets .now)) (text .now) p k n
+  nextly p k = stepOf (firstBy (lent count (labels .now) (targets .now))) (text .now) p k n
 
   first-said : (s : Step) → ent 𝓤 (ensured 𝓤 H A first-step.ended (first-step.clauses 𝓤 H A mem run) (κ, tt) first-args tt s) (fact 𝓤 (s ≡ firstly))
   first-said s = exE 𝓤 _ (λ ws. snd∗ 𝓤 (sem 𝓤 H A (lasts first-step.ended (κ, tt) first-args ws)) (fact 𝓤 (s ≡ firstly)))
@@ -377,17 +380,13 @@ module _ {M : Type 1} (𝓤 : URA M) (H : Heap 𝓤) (A : Atoms 𝓤) (W : Given
   nearer-wf : WellFounded Nearer
   nearer-wf = InvImage·wf (λ (h : Here). n - h .k) (Nat·lt-wfRel .wf)
 
-  going : (h : Here) → h .decided .go ≡ true
-      → Goes overWords layWords count (labels .now) (targets .now) (text .now) n (cutFromOf count (labels .now) (targets .now) (text .now) 0 list) (h .k) (h .decided) (h .words)
-  going h g = h .stands .going g
-
   abbrev started : (s : Step) → s ≡ firstly → Is step.the-row s (step-laws.lowered s ∷ []) → Here
   started s e typed = record {
     k = 0;
     words = list;
     decided = s;
     sized = refl;
-    stands = stands-first overWords layWords count (labels .now) (targets .now) (text .now) n _ words-none 0 list s (words-whole count (labels .now) (targets .now) (text .now) 0 list) e;
+    stands = stands-first overWords layWords count (labels .now) (targets .now) (text .now) n recorded words-none words-start 0 list s e;
     typed = typed;
   }
 
@@ -398,8 +397,9 @@ module _ {M : Type 1} (𝓤 : URA M) (H : Heap 𝓤) (A : Atoms 𝓤) (W : Given
     words = set (h .words) (h .k) (h .decided .word);
     decided = s;
     sized = length-set (h .words) (h .k) (h .decided .word) ∙ h .sized;
-    stands = stands-next overWords layWords count (labels .now) (targets .now) (text .now) n _ words-none (going h g) (set (h .words) (h .k) (h .decided .word))
-        (words-put (h .k) (h .decided .word) (h .words) (omega (arith, going h g .free, h .sized))) s e;
+    stands = stands-next _ _ _ _ _ _ _ (h .stands .going g) (set (h .words) (h .k) (h .decided .word))
+        (words-put (h .k) (h .decided .word) (h .words) (omega (arith, h .stands .going g .free, h .sized)))
+        (rw e (turn overWords layWords words-none _ _ _ (h .decided .next) (h .k + 1)));
     typed = typed;
   }
 
@@ -464,7 +464,7 @@ module _ {M : Type 1} (𝓤 : URA M) (H : Heap 𝓤) (A : Atoms 𝓤) (W : Given
           lft-new ! tt (λ ν. move ! (1 ∷ 2 ∷ []) $
           use2 W (later (some (λ (δ : GName). ‵ (MutSlice (named 0) (ν ∷ []) word.the-row .own (held δ (h .words)) (v-words ∷ []))
           ⊛ ‵ (Kept word.the-row κ′ (ν ∷ []) q′ γ b o δ (h .words))))) (lends (h .words) (h .sized) ν) $ await ! tt $ pick ! (λ δ. split ! $
-          move ! (2 ∷ 0 ∷ []) $ use2 W (raw (PutWord 𝓤 H A mem run .pre (to-put h ν δ))) (goes-put h ν δ (going h g .free)) $
+          move ! (2 ∷ 0 ∷ []) $ use2 W (raw (PutWord 𝓤 H A mem run .pre (to-put h ν δ))) (goes-put h ν δ (h .stands .going g .free)) $
           calls-at ! fm (PutWord 𝓤 H A mem run) knows-put (to-put h ν δ)
           (and-then ! (load ! (from ! (stop !)) (look ! 4 refl)) (and-then ! (load ! (from ! (stop !)) (look ! 18 refl))
           (and-then ! (load ! (from ! (stop !)) (look ! 14 refl)) (no-more !)))) (λ u.
@@ -487,7 +487,7 @@ module _ {M : Type 1} (𝓤 : URA M) (H : Heap 𝓤) (A : Atoms 𝓤) (W : Given
           -- `next_step`
           move ! (4 ∷ 5 ∷ []) $ use1 W (Shared ⊛ Shared) doubled $ split ! $ move ! (2 ∷ 0 ∷ []) $
           use2 W (raw (NextStep 𝓤 H A mem run .pre (to-next (h .decided .next) (h .k + 1))))
-          (goes-next (h .decided .next) (h .k + 1) (is-next h) k-fits (going h g .ready)) $
+          (goes-next (h .decided .next) (h .k + 1) (is-next h) k-fits (h .stands .going g .known)) $
           calls-at-last ! fm (NextStep 𝓤 H A mem run) knows-next (to-next (h .decided .next) (h .k + 1))
           (and-then ! (load ! (from ! (stop !)) (look ! 32 refl)) (and-then ! (load ! (from ! (stop !)) (look ! 30 refl))
           (and-then ! (load ! (from ! (stop !)) (look ! 28 refl)) (and-then ! (load ! (from ! (stop !)) (look ! 26 refl))
@@ -506,10 +506,10 @@ module _ {M : Type 1} (𝓤 : URA M) (H : Heap 𝓤) (A : Atoms 𝓤) (W : Given
           rewrite ! 3 (λ (l : List Word). Words l) stored refl $
           move ! (1 ∷ []) $ split ! $
           keep ! (4 ∷ 5 ∷ 3 ∷ 0 ∷ 8 ∷ 9 ∷ 10 ∷ 11 ∷ 12 ∷ 13 ∷ 14 ∷ 15 ∷ 16 ∷ 17 ∷ 18 ∷ 19 ∷ 20 ∷ 21 ∷ 22 ∷ 23 ∷ 24 ∷ 25 ∷ 26 ∷ 27 ∷ 28 ∷ 29 ∷ 30 ∷ 31 ∷ 32 ∷ 33 ∷ 34 ∷ 35 ∷ 36 ∷ 37 ∷ []) $
-          again ! Nearer At h (after h g s e (is-step s v is)) (omega (arith, going h g .free))))))))))))))
+          again ! Nearer At h (after h g s e (is-step s v is)) (omega (arith, h .stands .going g .free))))))))))))))
         where
           k-fits : h .k + 1 < 2 ^ 64
-          k-fits = omega (arith, going h g .free, room .1)
+          k-fits = omega (arith, h .stands .going g .free, room .1)
 
       ends : (h : Here) → h .decided .go ≡ false → Sq W (At h) (runs C Λ En body.turn-1 (anyQ (Turned h)))
       unfolding afterTurn

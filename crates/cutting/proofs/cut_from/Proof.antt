@@ -6,16 +6,17 @@ use mathlib.Core.Path.{_≡_, refl, ap}
 use borrow.Author.Needs.{needs}
 use lib.ListN.{length, length-set}
 use Rattle.number.specs.Refused.{rowOf}
-use Rattle.cutting.specs.Flat.{recordCells, Laid, cutCellsOf}
-use Rattle.cutting.specs.TurnLaws.{Stands, stands-first, stands-next}
-use Rattle.cutting.specs.LayLaws.{overCells, layCells, cells-none, cells-put, cells-whole}
+use Rattle.cutting.specs.Flat.{recordCells, Laid, laid, cutCellsOf}
+use Rattle.cutting.specs.TurnLaws.{stands-next, turn}
+use Rattle.cutting.specs.FirstLaws.{StandsBy, stands-first}
+use Rattle.cutting.specs.LayLaws.{overCells, layCells, cells-none, cells-put, cells-start}
 use Rattle.cutting.proofs.cut_from.Statement.{statement}
 use Rattle.cutting.proofs.cut_from.Tie as tie
 
 abbrev Inv-loop : tie.InvT-loop
 Inv-loop count labels targets text at records₀ room k₀ step₀ records k step =
     (length records ≡ length records₀)
-    × Stands overCells layCells count labels targets text (length records₀ / recordCells) (cutCellsOf count labels targets text at records₀) k step records
+    × StandsBy overCells layCells count labels targets text (length records₀ / recordCells) (cutCellsOf count labels targets text at records₀) k step records
 
 abbrev μ-loop : tie.MeasureT-loop
 μ-loop count labels targets text at records₀ room k₀ step₀ records k step = room - k
@@ -27,7 +28,7 @@ loop-holds : tie.Need-loop-holds Inv-loop μ-loop
 loop-holds c =
     let a = c .before .before .before .before .before .args in (
       refl,
-      stands-first overCells layCells _ _ _ _ _ _ cells-none (a .at) (a .records .now) _ (cells-whole _ _ _ _ _ _) (c .first-step .ensures),
+      stands-first overCells layCells _ _ _ _ _ laid cells-none cells-start (a .at) (a .records .now) _ (c .first-step .ensures),
     )
 
 -- in the loop a record is free: its cells lie within
@@ -67,7 +68,7 @@ add-k : tie.Need-add-k Inv-loop μ-loop
 add-k c = omega (arith, free c)
 
 next-step-requires : tie.Need-next-step-requires Inv-loop μ-loop
-next-step-requires c κs = c .before .before .before .loop .inv .1 .going (c .before .before .loop-test .taken) .ready
+next-step-requires c κs = c .before .before .before .loop .inv .1 .going (c .before .before .loop-test .taken) .known
 
 loop-less : tie.Need-loop-less Inv-loop μ-loop
 loop-less c = omega (arith, c .before .before .before .before .loop .inv .1 .going (c .before .before .before .loop-test .taken) .free)
@@ -77,7 +78,8 @@ loop-again c =
     let l = c .before .before .before .before .loop in
     let g = l .inv .1 .going (c .before .before .before .loop-test .taken) in (
       simp length-set (l .inv .0),
-      stands-next overCells layCells _ _ _ _ _ _ cells-none g _ (cells-put (l .k) (l .step .word) (l .records) (free (c .before .before))) _ (c .next-step .ensures),
+      stands-next _ _ _ _ _ _ _ g _ (cells-put (l .k) (l .step .word) (l .records) (free (c .before .before)))
+          (rw (c .next-step .ensures) (turn overCells layCells cells-none _ _ _ (l .step .next) (l .k + 1))),
     )
 
 same-length : tie.Need-same-length Inv-loop μ-loop

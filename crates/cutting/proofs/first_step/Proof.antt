@@ -3,7 +3,7 @@
 use mathlib.Core.Path.{sym, _∙_}
 use borrow.Author.Needs.{needs}
 use Rattle.cutting.specs.WalkLaws.{well-walkable}
-use Rattle.cutting.specs.TurnLaws.{first-refused, first-goes}
+use Rattle.cutting.specs.FirstLaws.{first-refused, first-goes}
 use Rattle.cutting.proofs.first_step.Statement.{statement}
 use Rattle.cutting.proofs.first_step.Tie as tie
 

@@ -3,8 +3,9 @@
 use native.Mathlib.Omega.{arith}
 use mathlib.Core.Path.{sym, ap, _∙_}
 use borrow.Author.Needs.{needs}
-use Rattle.cutting.specs.Turns.{next}
-use Rattle.cutting.specs.WalkLaws.{found-fits}
+use Rattle.table.specs.Table.{lent}
+use Rattle.cutting.specs.Walk.{next}
+use Rattle.cutting.specs.CutLaws.{by-table, found-fits}
 use Rattle.cutting.specs.TurnLaws.{step-over, step-stuck, step-full, step-goes}
 use Rattle.cutting.proofs.next_step.Statement.{statement}
 use Rattle.cutting.proofs.next_step.Tie as tie
@@ -36,7 +37,7 @@ add-t20 : tie.Need-add-t20
 add-t20 c =
     let found = ap next (sym (c .before .before .len .given .1)) ∙ c .before .before .before .before .next-word .ensures in
     let a = c .before .before .before .before .before .before .before .before .before .args in
-    omega (arith, found-fits (a .count) (a .labels .now) (a .targets .now) (a .text .now) (a .place .at) _ _ found)
+    omega (arith, found-fits (by-table (lent (a .count) (a .labels .now) (a .targets .now))) (a .text .now) (a .place .at) _ _ found)
 
 enum-told : tie.Need-enum-told
 enum-told c = search needs

@@ -1,7 +1,7 @@
 -- `derivative::derive` meets its contract: one law of the limited derivative a call and a return.
 -- The measure is the cell's number. Assumes nothing.
 use native.Mathlib.Omega.{arith}
-use mathlib.Core.Path.{_≡_}
+use mathlib.Core.Path.{_≡_, _∙_}
 use mathlib.Core.Bool.{true}
 use mathlib.Core.List.{List}
 use Rattle.meaning.specs.Limited.{derivFit}
@@ -24,6 +24,7 @@ use Rattle.derivative.proofs.rest_of.Reads as rest-of-reads
 use Rattle.derivative.proofs.with_rest.Reads as with-rest-reads
 use Rattle.choice.proofs.alt_short.Reads as alt-short-reads
 use Rattle.normal.proofs.store.Reads as store-reads
+use Rattle.term.proofs.arity.Reads as arity-reads
 use Rattle.term.proofs.first_of.Reads as first-of-reads
 use Rattle.term.proofs.kind_of.Reads as kind-of-reads
 use Rattle.term.proofs.node_at.Reads as node-at-reads
@@ -44,12 +45,14 @@ abbrev K : ℕ → derive-lts.Claims
 K t = (
   node-at-reads.Asked,
   node-at-reads.Learnt,
-  kind-of-reads.Asked,
-  kind-of-reads.Learnt,
+  arity-reads.Asked,
+  arity-reads.Learnt,
   leaf-left-reads.Asked,
   leaf-left-reads.Learnt,
   store-reads.Asked,
   store-reads.Learnt,
+  kind-of-reads.Asked,
+  kind-of-reads.Learnt,
   first-of-reads.Asked,
   first-of-reads.Learnt,
   rest-of-reads.Asked,
@@ -82,7 +85,7 @@ module _ (t : ℕ) where
   Second = derive-lts.After-db (K t) (derive-at t) derive.Post
 
   abbrev start : Read → derive-lts.Start (K t) (derive-at t) derive.Post
-  start c = c .before .before .before .before .before .before .before
+  start c = c .before .before .before .before .before .before .before .before
 
   abbrev read : First → Read
   read c = c .before .before .before .before .before .before
@@ -98,7 +101,7 @@ module _ (t : ℕ) where
 
   -- what was read, and the memory at each place
   abbrev kind : Read → ℕ
-  kind c = c .before .before .before .kind-of .result
+  kind c = c .before .before .kind-of .result
 
   abbrev a : Read → ℕ
   a c = c .before .first-of .result
@@ -119,15 +122,15 @@ module _ (t : ℕ) where
   memory-2 c = c .before .before .before .before .with-rest .last .0
 
   -- what the node tells, and that it has parts
-  node : (c : derive-lts.After-kind-of (K t) (derive-at t) derive.Post)
+  node : (c : derive-lts.After-arity (K t) (derive-at t) derive.Post)
       → Found (c .before .before .before .before .args .cells .now) (c .before .before .before .before .args .i) (c .before .node-at .result)
   node c = found _ _ _ _ (c .before .before .before .before .pre .1 .sound) (c .before .before .before .before .pre .1 .held) (c .before .node-at .ensures)
 
   has : (c : Read) → Parts (memory c) (start c .args .i) (kind c) (a c) (rest c)
   has c =
-      let told = c .before .before .before .kind-of .ensures in
-      parts (node (c .before .before .before)) (omega (arith, told, c .before .before .if1 .left)) (start c .pre .1 .in-shape)
-      told (c .before .first-of .ensures) (c .rest-of .ensures)
+      let test = c .before .before .before in
+      parts (node (test .before)) (λ e. test .if1 .left (test .before .arity .ensures ∙ e)) (start c .pre .1 .in-shape)
+      (c .before .before .kind-of .ensures) (c .before .first-of .ensures) (c .rest-of .ensures)
 
   -- what the callees made
   da : (c : First) → Got (memory (read c)) (start (read c) .args .top) (memory-1 c) (c .da .given .0 .0) (c .da .given .0 .1 .0)
@@ -155,13 +158,13 @@ module _ (t : ℕ) where
   store-requires c κs =
       let s = c .before .before .before .before .before .before .before in
       let n = c .before .before .before in
-      leaf-asks (s .pre .1) (node n) (omega (arith, n .kind-of .ensures)) (s .args .byte) (c .leaf-left .ensures)
+      leaf-asks (s .pre .1) (node n) (omega (arith, n .arity .ensures)) (s .args .byte) (c .leaf-left .ensures)
 
   returns : derive-lts.Need-returns (K t) (derive-at t) derive.Post
   returns c =
       let s = c .before .before .before .before .before .before .before .before .before .before in
       let n = c .before .before .before .before .before .before in
-      leaf-up (s .pre .1) (node n) (omega (arith, n .kind-of .ensures)) (s .args .byte) (c .before .before .before .leaf-left .ensures)
+      leaf-up (s .pre .1) (node n) (omega (arith, n .arity .ensures)) (s .args .byte) (c .before .before .before .leaf-left .ensures)
       (c .before .before .store .ensures)
 
   derive-requires : derive-lts.Need-derive-requires (K t) (derive-at t) derive.Post
@@ -233,7 +236,7 @@ module _ (t : ℕ) where
 pub +derive-spec : {M : Type 1} → statement M
 +derive-spec = close μ-derive λ t. derive-lts.spec (K t) (derive-at t) derive.Post
     (λ c κs. search needs) (λ c κs. search needs) (λ c κs. search needs) (store-requires t) (λ c. search needs) (returns t)
-    (λ c κs. search needs) (λ c κs. search needs) (derive-requires t) (λ c. search needs) (λ c. search needs) (λ c. search needs)
+    (λ c κs. search needs) (λ c κs. search needs) (λ c κs. search needs) (derive-requires t) (λ c. search needs) (λ c. search needs) (λ c. search needs)
     (returns-2 t) (with-rest-requires t) (λ c. search needs) (λ c. search needs) (λ c. search needs) (returns-3 t)
     (both-sides-requires t) (derive-requires-2 t) (λ c. search needs) (λ c. search needs) (λ c. search needs) (returns-4 t)
     (alt-short-requires t) (λ c. search needs) (returns-5 t) (λ c. search needs) (returns-6 t)

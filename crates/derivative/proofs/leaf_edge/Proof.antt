@@ -1,77 +1,55 @@
--- `derivative::leaf_edge` meets its contract: one return a kind, and of a range one for each side of it.
+-- `derivative::leaf_edge` meets its contract: of a range one return for each side of it, and one for any other leaf.
 -- Assumes nothing.
-use mathlib.Core.Path.{ap}
-use Rattle.term.specs.Nodes.{secondOf}
-use Rattle.derivative.specs.EdgeLaws.{before-range, in-range, after-range}
+use native.Mathlib.Omega.{arith}
+use mathlib.Core.Path.{_≡_, sym, _∙_}
 use borrow.Author.Needs.{needs}
+use Rattle.term.specs.Nodes.{kindOf}
+use Rattle.derivative.specs.EdgeLaws.{before-range, in-range, after-range, no-range}
 use Rattle.derivative.proofs.leaf_edge.Statement.{statement}
 use Rattle.derivative.proofs.leaf_edge.Tie as tie
 
-enum-told : tie.Need-enum-told
-enum-told c = search needs
+range : (c : tie.Else1) → kindOf (c .before .before .args .leaf) ≡ 2
+range c = sym (c .before .kind-of .ensures) ∙ c .if1 .left
 
-enum-told-2 : tie.Need-enum-told-2
-enum-told-2 c = search needs
-
-enum-known-leaf : tie.Need-enum-known-leaf
-enum-known-leaf c = search needs
+kind-of-requires : tie.Need-kind-of-requires
+kind-of-requires c κs = search needs
 
 returns : tie.Need-returns
-returns c = before-range (c .before .before .before .before .args .byte) (c .before .before .leaf .given .1) (c .if1 .taken)
+returns c = no-range (c .before .before .args .byte) (c .before .before .args .leaf) (λ e. c .if1 .taken (c .before .kind-of .ensures ∙ e))
 
-add-result : tie.Need-add-result
-add-result c = let b = ap secondOf (c .before .before .before .leaf .given .1) in search needs
+first-of-requires : tie.Need-first-of-requires
+first-of-requires c κs = search needs
 
 returns-2 : tie.Need-returns-2
 returns-2 c =
-    let range = c .before .before .before in
-    in-range (range .before .before .args .byte) (range .leaf .given .1) (c .before .if1 .left) (c .if2 .taken)
+    let s = c .before .before .before .before .args in
+    let told = c .before .first-of .ensures in
+    told ∙ before-range (s .byte) (s .leaf) (range (c .before .before)) (omega (arith, told, c .if2 .taken))
 
-enum-told-3 : tie.Need-enum-told-3
-enum-told-3 c = search needs
+second-of-requires : tie.Need-second-of-requires
+second-of-requires c κs = search needs
 
-enum-told-4 : tie.Need-enum-told-4
-enum-told-4 c = search needs
-
-enum-told-5 : tie.Need-enum-told-5
-enum-told-5 c = search needs
+add-result : tie.Need-add-result
+add-result c = omega (arith, c .before .second-of .ensures, c .before .before .before .before .before .before .pre .second)
 
 returns-3 : tie.Need-returns-3
-returns-3 c = search needs
+returns-3 c =
+    let first = c .before .before .before in
+    let s = first .before .before .before .args in
+    let told = c .before .second-of .ensures in
+    let edge =
+    in-range (s .byte) (s .leaf) (range (first .before)) (omega (arith, first .first-of .ensures, c .before .before .if2 .left))
+    (omega (arith, told, c .if3 .taken)) in
+    omega (arith, told, edge)
 
 returns-4 : tie.Need-returns-4
-returns-4 c = search needs
-
-returns-5 : tie.Need-returns-5
-returns-5 c =
-    let range = c .before .before .before in
-    after-range (range .before .before .args .byte) (range .leaf .given .1) (c .before .if1 .left) (c .if2 .left)
-
-returns-6 : tie.Need-returns-6
-returns-6 c = search needs
-
-returns-7 : tie.Need-returns-7
-returns-7 c = search needs
-
-returns-8 : tie.Need-returns-8
-returns-8 c = search needs
+returns-4 c =
+    let first = c .before .before .before in
+    let s = first .before .before .before .args in
+    after-range (s .byte) (s .leaf) (range (first .before)) (omega (arith, first .first-of .ensures, c .before .before .if2 .left))
+    (omega (arith, c .before .second-of .ensures, c .if3 .left))
 
 pub leaf-edge-spec : {M : Type 1} → statement M
 leaf-edge-spec =
     tie.close
-    (tie.spec
-    enum-told
-    enum-told-2
-    enum-known-leaf
-    returns
-    add-result
-    returns-2
-    enum-told-3
-    enum-told-4
-    enum-told-5
-    returns-3
-    returns-4
-    returns-5
-    returns-6
-    returns-7
-    returns-8)
+    (tie.spec kind-of-requires returns first-of-requires returns-2 second-of-requires add-result returns-3 returns-4)

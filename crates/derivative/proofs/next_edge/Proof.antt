@@ -1,6 +1,6 @@
 -- `derivative::next_edge` meets its contract: a leaf is answered at once, and then one law a way through a turn and one for the end.
 -- The measure is the number of nodes that are to come. Assumes nothing.
-use Prim.Native.Nat.{_+_, _<_, min}
+use Prim.Native.Nat.{_+_, min}
 use native.Mathlib.Omega.{arith}
 use mathlib.Core.Path.{_≡_, sym, ap, _∙_}
 use mathlib.Core.Bool.{true}
@@ -8,9 +8,10 @@ use lib.ListN.{getD}
 use borrow.Author.Needs.{needs}
 use Rattle.meaning.specs.Limited.{short}
 use Rattle.term.specs.Cells.{nodeOf, term, Sound}
-use Rattle.term.specs.Nodes.{kindOf, Found}
+use Rattle.term.specs.Nodes.{arityOf, Found}
 use Rattle.term.specs.Places.{ahead}
-use Rattle.term.specs.CellLaws.{found}
+use Rattle.term.specs.CellLaws.{below-fields, found}
+use Rattle.term.specs.ReadLaws.{arity-two}
 use Rattle.derivative.specs.Waiting.{leafEdge, Passing}
 use Rattle.derivative.specs.EdgeLaws as laws
 use Rattle.derivative.proofs.next_edge.Statement.{statement}
@@ -25,8 +26,8 @@ abbrev μ-loop : tie.MeasureT-loop
 node-at-requires : tie.Need-node-at-requires Inv-loop μ-loop
 node-at-requires c κs = omega (arith, c .before .pre .0 .room)
 
-kind-of-requires : tie.Need-kind-of-requires Inv-loop μ-loop
-kind-of-requires c κs = search needs
+arity-requires : tie.Need-arity-requires Inv-loop μ-loop
+arity-requires c κs = search needs
 
 -- a term without parts
 module _ (c : tie.Then1 Inv-loop μ-loop) where
@@ -36,14 +37,14 @@ module _ (c : tie.Then1 Inv-loop μ-loop) where
   only : Found (start .args .cells .now) (start .args .i) (c .before .before .node-at .result)
   only = found _ _ _ _ (start .pre .0) (omega arith) (c .before .before .node-at .ensures)
 
-  only-leaf : kindOf (c .before .before .node-at .result) < 3
-  only-leaf = omega (arith, c .before .kind-of .ensures)
+  only-leaf : arityOf (c .before .before .node-at .result) ≡ 0
+  only-leaf = sym (c .before .arity .ensures) ∙ c .if1 .taken
 
 leaf-edge-requires : tie.Need-leaf-edge-requires Inv-loop μ-loop
-leaf-edge-requires c κs = laws.leaf-bounded (only c) (only-leaf c)
+leaf-edge-requires c κs = below-fields _ (start c .args .i) (omega (arith, start c .pre .0 .room, start c .pre .0 .small)) (only c .below)
 
 returns : tie.Need-returns Inv-loop μ-loop
-returns c = c .leaf-edge .ensures ∙ sym (laws.leaf-edge _ _ (start (c .before) .args .byte) _ (only (c .before)) (only-leaf (c .before)))
+returns c = c .leaf-edge .ensures ∙ sym (laws.leaf-edge (only (c .before)) (start (c .before) .args .byte) (only-leaf (c .before)))
 
 loop-holds : tie.Need-loop-holds Inv-loop μ-loop
 loop-holds c =
@@ -53,11 +54,11 @@ loop-holds c =
 node-at-requires-2 : tie.Need-node-at-requires-2 Inv-loop μ-loop
 node-at-requires-2 c κs = omega (arith, c .before .before .before .before .before .pre .0 .room, c .loop .inv .held)
 
-kind-of-requires-2 : tie.Need-kind-of-requires-2 Inv-loop μ-loop
-kind-of-requires-2 c κs = search needs
+arity-requires-2 : tie.Need-arity-requires-2 Inv-loop μ-loop
+arity-requires-2 c κs = search needs
 
 -- what is known in a turn whose node was read: the loop as the turn began it, and the node
-module _ (c : tie.After-kind-of2 Inv-loop μ-loop) where
+module _ (c : tie.After-arity2 Inv-loop μ-loop) where
   abbrev loop : tie.At-loop Inv-loop μ-loop
   loop = c .before .before
 
@@ -77,9 +78,9 @@ module _ (c : tie.After-kind-of2 Inv-loop μ-loop) where
   told : c .before .node-at2 .result ≡ nodeOf (getD (begun .args .cells .now) (loop .loop .at) 0)
   told = c .before .node-at2 .ensures
 
--- of a leaf its kind, and the least edge with its own
-leaf : (c : tie.Then2 Inv-loop μ-loop) → kindOf (c .before .before .node-at2 .result) < 3
-leaf c = omega (arith, c .before .kind-of2 .ensures)
+-- that it is a leaf, and the least edge with its own
+leaf : (c : tie.Then2 Inv-loop μ-loop) → arityOf (c .before .before .node-at2 .result) ≡ 0
+leaf c = sym (c .before .arity2 .ensures) ∙ c .if2 .taken
 
 least : (c : tie.After-smaller Inv-loop μ-loop) → c .smaller .result
     ≡ min (loop (c .before .before .before) .loop .least)
@@ -87,7 +88,7 @@ least : (c : tie.After-smaller Inv-loop μ-loop) → c .smaller .result
 least c = c .smaller .ensures ∙ ap (min (loop (c .before .before .before) .loop .least)) (c .before .leaf-edge2 .ensures)
 
 leaf-edge-requires-2 : tie.Need-leaf-edge-requires-2 Inv-loop μ-loop
-leaf-edge-requires-2 c κs = laws.bounded (sound (c .before)) (fits (c .before)) _ (passing (c .before)) (told (c .before)) (leaf c)
+leaf-edge-requires-2 c κs = laws.fields (sound (c .before)) (fits (c .before)) _ (passing (c .before)) (told (c .before))
 
 smaller-requires : tie.Need-smaller-requires Inv-loop μ-loop
 smaller-requires c κs = search needs
@@ -131,38 +132,37 @@ first-of-requires c κs = search needs
 loop-less-2 : tie.Need-loop-less-2 Inv-loop μ-loop
 loop-less-2 c =
     let t = c .before .before .before in
-    laws.star-less (sound t) (fits t) _ (passing t) (told t) (sym (t .kind-of2 .ensures) ∙ c .if4 .taken) (c .before .first-of .ensures)
+    laws.one-less (sound t) (fits t) _ (passing t) (told t) (sym (t .arity2 .ensures) ∙ c .if4 .taken) (c .before .first-of .ensures)
 
 loop-again-2 : tie.Need-loop-again-2 Inv-loop μ-loop
 loop-again-2 c =
     let t = c .before .before .before in
-    laws.star-next (sound t) (fits t) _ (passing t) (told t) (sym (t .kind-of2 .ensures) ∙ c .if4 .taken) (c .before .first-of .ensures)
+    laws.one-next (sound t) (fits t) _ (passing t) (told t) (sym (t .arity2 .ensures) ∙ c .if4 .taken) (c .before .first-of .ensures)
 
 second-of-requires : tie.Need-second-of-requires Inv-loop μ-loop
 second-of-requires c κs = search needs
 
--- of a node with two children its kind
+-- that a node has two children
 module _ (c : tie.After-second-of Inv-loop μ-loop) where
-  abbrev turn : tie.After-kind-of2 Inv-loop μ-loop
+  abbrev turn : tie.After-arity2 Inv-loop μ-loop
   turn = c .before .before .before .before
 
-  has-parts : 2 < kindOf (turn .before .node-at2 .result)
-  has-parts = omega (arith, turn .kind-of2 .ensures, c .before .before .before .if2 .left)
-
-  no-star : kindOf (turn .before .node-at2 .result) ≡ 5 → ⊥
-  no-star e = c .before .if4 .left (turn .kind-of2 .ensures ∙ e)
+  two : arityOf (turn .before .node-at2 .result) ≡ 2
+  two =
+      arity-two (turn .before .node-at2 .result) (λ e. c .before .before .before .if2 .left (turn .arity2 .ensures ∙ e))
+      (λ e. c .before .if4 .left (turn .arity2 .ensures ∙ e))
 
 cast-waiting : tie.Need-cast-waiting Inv-loop μ-loop
 cast-waiting c =
     let t = turn c in
     let small =
-    laws.second-small (sound t) (fits t) _ (passing t) (told t) (has-parts c) (no-star c) (c .before .before .first-of .ensures) (c .second-of .ensures) in
+    laws.second-small (sound t) (fits t) _ (passing t) (told t) (two c) (c .before .before .first-of .ensures) (c .second-of .ensures) in
     search needs
 
 array-write-waiting : tie.Need-array-write-waiting Inv-loop μ-loop
 array-write-waiting c =
     let t = turn c in
-    laws.end-inside (sound t) (fits t) _ (passing t) (told t) (has-parts c) (no-star c) (c .before .before .first-of .ensures) (c .second-of .ensures)
+    laws.end-inside (sound t) (fits t) _ (passing t) (told t) (two c) (c .before .before .first-of .ensures) (c .second-of .ensures)
 
 mul-waiting : tie.Need-mul-waiting Inv-loop μ-loop
 mul-waiting c = let inside = array-write-waiting c in search needs
@@ -173,12 +173,12 @@ add-count c = let inside = array-write-waiting c in search needs
 loop-less-3 : tie.Need-loop-less-3 Inv-loop μ-loop
 loop-less-3 c =
     let t = turn c in
-    laws.pair-less (sound t) (fits t) _ (passing t) (told t) (has-parts c) (no-star c) (c .before .before .first-of .ensures) (c .second-of .ensures)
+    laws.two-less (sound t) (fits t) _ (passing t) (told t) (two c) (c .before .before .first-of .ensures) (c .second-of .ensures)
 
 loop-again-3 : tie.Need-loop-again-3 Inv-loop μ-loop
 loop-again-3 c =
     let t = turn c in
-    laws.pair-next (sound t) (fits t) _ (passing t) (told t) (has-parts c) (no-star c) (c .before .before .first-of .ensures) (c .second-of .ensures)
+    laws.two-next (sound t) (fits t) _ (passing t) (told t) (two c) (c .before .before .first-of .ensures) (c .second-of .ensures)
 
 pub next-edge-spec : {M : Type 1} → statement M
 next-edge-spec =
@@ -187,12 +187,12 @@ next-edge-spec =
     Inv-loop
     μ-loop
     node-at-requires
-    kind-of-requires
+    arity-requires
     leaf-edge-requires
     returns
     loop-holds
     node-at-requires-2
-    kind-of-requires-2
+    arity-requires-2
     leaf-edge-requires-2
     smaller-requires
     returns-2

@@ -26,7 +26,7 @@ load-requires : tie.Need-load-requires Inv-loop μ-loop
 load-requires c κs = labelled-within (c .before .before .before .before .pre) (c .loop-test .taken)
 
 label-of-requires : tie.Need-label-of-requires Inv-loop μ-loop
-label-of-requires c κs = labelled-reads (c .before .before .before .before .before .pre) (c .before .loop-test .taken) (c .load .ensures)
+label-of-requires c κs = (labelled-reads (c .before .before .before .before .before .pre) (c .before .loop-test .taken) (c .load .ensures), omega arith)
 
 cast-labels : tie.Need-cast-labels Inv-loop μ-loop
 cast-labels c =

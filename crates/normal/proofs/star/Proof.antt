@@ -1,118 +1,92 @@
--- `normal::star` meets its contract: one law a kind.
+-- `normal::star` meets its contract: one law a return, by what the tests told of the part.
 -- Assumes nothing.
-use Rattle.term.specs.declared.Term.the-variants.{Nothing, Empty, Range, Cat, Alt, Star}
+use mathlib.Core.Path.{sym, _∙_}
+use Rattle.term.specs.Nodes.{Found}
 use Rattle.term.specs.CellLaws.{found}
-use Rattle.term.specs.ReadLaws.{found-as}
-use Rattle.normal.specs.ChainLaws.{star-nothing, star-empty, star-range, star-cat, star-alt, star-star}
+use Rattle.normal.specs.NodeLaws.{told-nothing, told-empty}
+use Rattle.normal.specs.ChainLaws.{star-nothing, star-empty, star-star, star-new}
 use borrow.Author.Needs.{needs}
 use Rattle.normal.proofs.star.Statement.{statement}
 use Rattle.normal.proofs.star.Tie as tie
 
+-- what the node tells
+module _ (c : tie.After-node-at) where
+  abbrev start : tie.Start
+  start = c .before .before .before
+
+  x : Found (start .args .cells .now) (start .args .a) (c .node-at .result)
+  x = found _ _ _ _ (start .pre .0) (start .pre .1 .0) (c .node-at .ensures)
+
 node-at-requires : tie.Need-node-at-requires
 node-at-requires c κs = search needs
 
-enum-told : tie.Need-enum-told
-enum-told c = search needs
+is-nothing-requires : tie.Need-is-nothing-requires
+is-nothing-requires c κs = search needs
 
 store-requires : tie.Need-store-requires
 store-requires c κs = search needs
-
-enum-told-2 : tie.Need-enum-told-2
-enum-told-2 c = search needs
-
-enum-told-3 : tie.Need-enum-told-3
-enum-told-3 c = search needs
-
-store-requires-2 : tie.Need-store-requires-2
-store-requires-2 c κs = search needs
-
-enum-told-4 : tie.Need-enum-told-4
-enum-told-4 c = search needs
-
-store-requires-3 : tie.Need-store-requires-3
-store-requires-3 c κs = search needs
-
-enum-told-5 : tie.Need-enum-told-5
-enum-told-5 c = search needs
-
-store-requires-4 : tie.Need-store-requires-4
-store-requires-4 c κs = search needs
-
-enum-told-6 : tie.Need-enum-told-6
-enum-told-6 c = search needs
 
 same-length : tie.Need-same-length
 same-length c = search needs
 
 returns : tie.Need-returns
-returns c = star-nothing (c .before .before .before .before .before .before .before .before .before .pre .0) (c .before .before .before .before .before .before .before .before .before .pre .1 .0)
-    (found-as Nothing (found _ _ _ _ (c .before .before .before .before .before .before .before .before .before .pre .0) (c .before .before .before .before .before .before .before .before .before .pre .1 .0)
-    (c .before .before .before .before .before .before .node-at .ensures)) (c .before .before .before .before .enum-told .given .1)) (c .before .before .store .ensures)
+returns c =
+    let d = c .before .before .before .before in
+    let n = d .before .before in
+    star-nothing (x n) (told-nothing (x n) (d .before .is-nothing .ensures) (d .if1 .taken)) (c .before .before .store .ensures)
+
+is-empty-requires : tie.Need-is-empty-requires
+is-empty-requires c κs = search needs
 
 same-length-2 : tie.Need-same-length-2
 same-length-2 c = search needs
 
 returns-2 : tie.Need-returns-2
-returns-2 c = star-empty (c .before .before .before .before .before .pre .0) (c .before .before .before .before .before .pre .1 .0) (found-as Empty
-    (found _ _ _ _ (c .before .before .before .before .before .pre .0) (c .before .before .before .before .before .pre .1 .0) (c .before .before .node-at .ensures))
-    (c .enum-told2 .given .1))
+returns-2 c =
+    let n = c .before .before .before .before in
+    star-empty (x n) (start n .pre .0) (start n .pre .1 .0) (told-empty (x n) (c .before .is-empty .ensures) (c .if2 .taken))
+
+kind-of-requires : tie.Need-kind-of-requires
+kind-of-requires c κs = search needs
 
 same-length-3 : tie.Need-same-length-3
 same-length-3 c = search needs
 
 returns-3 : tie.Need-returns-3
-returns-3 c = star-range (c .before .before .before .before .before .before .before .before .before .pre .0) (c .before .before .before .before .before .before .before .before .before .pre .1 .0)
-    (found-as (Range _ _) (found _ _ _ _ (c .before .before .before .before .before .before .before .before .before .pre .0) (c .before .before .before .before .before .before .before .before .before .pre .1 .0)
-    (c .before .before .before .before .before .before .node-at .ensures)) (c .before .before .before .before .enum-told3 .given .1)) (c .before .before .store2 .ensures)
+returns-3 c =
+    let n = c .before .before .before .before .before .before in
+    star-star (x n) (start n .pre .0) (start n .pre .1 .0) (sym (c .before .kind-of .ensures) ∙ c .if3 .taken)
+
+store-requires-2 : tie.Need-store-requires-2
+store-requires-2 c κs = search needs
 
 same-length-4 : tie.Need-same-length-4
 same-length-4 c = search needs
 
 returns-4 : tie.Need-returns-4
-returns-4 c = star-cat (c .before .before .before .before .before .before .before .before .before .pre .0) (c .before .before .before .before .before .before .before .before .before .pre .1 .0)
-    (found-as (Cat _ _) (found _ _ _ _ (c .before .before .before .before .before .before .before .before .before .pre .0) (c .before .before .before .before .before .before .before .before .before .pre .1 .0)
-    (c .before .before .before .before .before .before .node-at .ensures)) (c .before .before .before .before .enum-told4 .given .1)) (c .before .before .store3 .ensures)
-
-same-length-5 : tie.Need-same-length-5
-same-length-5 c = search needs
-
-returns-5 : tie.Need-returns-5
-returns-5 c = star-alt (c .before .before .before .before .before .before .before .before .before .pre .0) (c .before .before .before .before .before .before .before .before .before .pre .1 .0)
-    (found-as (Alt _ _) (found _ _ _ _ (c .before .before .before .before .before .before .before .before .before .pre .0) (c .before .before .before .before .before .before .before .before .before .pre .1 .0)
-    (c .before .before .before .before .before .before .node-at .ensures)) (c .before .before .before .before .enum-told5 .given .1)) (c .before .before .store4 .ensures)
-
-same-length-6 : tie.Need-same-length-6
-same-length-6 c = search needs
-
-returns-6 : tie.Need-returns-6
-returns-6 c = star-star (c .before .before .before .before .before .pre .0) (c .before .before .before .before .before .pre .1 .0) (found-as (Star _)
-    (found _ _ _ _ (c .before .before .before .before .before .pre .0) (c .before .before .before .before .before .pre .1 .0) (c .before .before .node-at .ensures))
-    (c .enum-told6 .given .1))
+returns-4 c =
+    let d = c .before .before .before .before in
+    let e = d .before .before in
+    let n = e .before .before .before .before in
+    star-new (x n) (told-nothing (x n) (e .before .before .before .is-nothing .ensures) (e .before .before .if1 .left))
+    (told-empty (x n) (e .before .is-empty .ensures) (e .if2 .left)) (λ k. d .if3 .left (d .before .kind-of .ensures ∙ k))
+    (c .before .before .store2 .ensures)
 
 pub star-spec : {M : Type 1} → statement M
 star-spec =
     tie.close
     (tie.spec
     node-at-requires
-    enum-told
+    is-nothing-requires
     store-requires
-    enum-told-2
-    enum-told-3
-    store-requires-2
-    enum-told-4
-    store-requires-3
-    enum-told-5
-    store-requires-4
-    enum-told-6
     same-length
     returns
+    is-empty-requires
     same-length-2
     returns-2
+    kind-of-requires
     same-length-3
     returns-3
+    store-requires-2
     same-length-4
-    returns-4
-    same-length-5
-    returns-5
-    same-length-6
-    returns-6)
+    returns-4)

@@ -1,7 +1,7 @@
 -- `places::find_from` meets its contract: the version and the rule count, and then the way to the rule.
 -- Assumes nothing.
 use mathlib.Core.Path.{_≡_, sym, _∙_}
-use Rattle.number.specs.Limits.{version, lastVersion}
+use Rattle.number.specs.Limits.{firstVersion, lastVersion}
 use Rattle.number.specs.Numbers.{field}
 use Rattle.number.specs.Refused.Answer.{got}
 use Rattle.book.specs.AnswerLaws.{value-told, refusal-given}
@@ -20,7 +20,7 @@ start-of c = version-of c .before .before .before .before .before
 
 -- past the first `let .. else`, and past the second
 version-read : (c : tie.After-known-told)
-    → field (c .before .before .before .before .before .args .book .now) version lastVersion 0
+    → field (c .before .before .before .before .before .args .book .now) firstVersion lastVersion 0
     ≡ got (c .before .version .given .0 .0) (c .before .version .given .0 .1 .0)
 version-read c = value-told (c .before .before .before .read-field .ensures .answer) (c .before .version .given .1)
 

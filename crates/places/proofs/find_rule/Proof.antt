@@ -22,7 +22,7 @@ abbrev μ-loop : tie.MeasureT-loop
 -- past the first `let .. else`: the head that was read
 head-read : (c : tie.After-head Inv-loop μ-loop)
     → (let loop = c .before .before .before .before in
-    readHead (loop .before .before .args .book .now) (loop .loop .place) ≡ got (c .head .given .0 .0) (c .head .given .0 .0 .at))
+    readHead (loop .before .before .args .book .now) (loop .before .before .args .version) (loop .loop .place) ≡ got (c .head .given .0 .0) (c .head .given .0 .0 .at))
 head-read c = place-told (c .before .before .read-head .ensures) (c .head .given .1)
 
 nodes-told : (c : tie.After-check-nodes Inv-loop μ-loop)
@@ -51,7 +51,7 @@ returns c =
     told ∙ sym (l .inv ∙ find-head-refused _ _ _ _ _ (sym (c .before .before .read-head .ensures) ∙ told))
 
 check-nodes-requires : tie.Need-check-nodes-requires Inv-loop μ-loop
-check-nodes-requires c κs = omega (arith, head-few _ _ _ _ (head-read (c .before)))
+check-nodes-requires c κs = omega (arith, head-few _ _ _ _ _ (head-read (c .before)))
 
 enum-known-nodes : tie.Need-enum-known-nodes Inv-loop μ-loop
 enum-known-nodes c = search needs

@@ -31,7 +31,7 @@ refusal-of-requires c κs = search needs
 returns : tie.Need-returns
 returns c =
     let kind = refusal-given (c .before .before .before .read-field .ensures .answer) (c .before .enum-told .given .1) (c .refusal-of .ensures) in
-    sym (head-kind-refused _ _ _ kind)
+    sym (head-kind-refused _ _ _ _ kind)
 
 read-field-requires-2 : tie.Need-read-field-requires-2
 read-field-requires-2 c κs = search needs
@@ -49,12 +49,12 @@ returns-2 : tie.Need-returns-2
 returns-2 c =
     let count =
     refusal-given (c .before .before .before .read-field2 .ensures .answer) (c .before .enum-told2 .given .1) (c .refusal-of2 .ensures) in
-    sym (head-count-refused _ _ _ _ _ (kind-read (c .before .before .before .before)) count)
+    sym (head-count-refused _ _ _ _ _ _ (kind-read (c .before .before .before .before)) count)
 
 returns-3 : tie.Need-returns-3
 returns-3 c =
     let count = value-told (c .before .before .before .read-field2 .ensures .answer) (c .before .count .given .1) in
-    sym (head-got _ _ _ _ _ _ (record { kind-read = kind-read (c .before .before .before .before); count-read = count }))
+    sym (head-got _ _ _ _ _ _ _ (record { kind-read = kind-read (c .before .before .before .before); count-read = count }))
 
 pub read-head-spec : {M : Type 1} → statement M
 read-head-spec =

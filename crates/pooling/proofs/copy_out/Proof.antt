@@ -5,12 +5,13 @@ use native.Mathlib.Omega.{arith}
 use mathlib.Core.Path.{_≡_, sym, _∙_}
 use lib.ListN.{length, set, length-set}
 use borrow.Author.Needs.{needs}
-use Rattle.meaning.specs.SizeLaws.{size-some}
+use Rattle.meaning.specs.PartLaws.{size-some}
 use Rattle.term.specs.Cells.{term}
-use Rattle.term.specs.Nodes.{kindOf}
+use Rattle.term.specs.Nodes.{arityOf}
+use Rattle.term.specs.ReadLaws.{arity-two}
 use Rattle.pooling.specs.Copied.{Copying}
 use Rattle.pooling.specs.CopyLaws.{copying-first, copied, last-inside, start-some, at-inside, leaf-next}
-use Rattle.pooling.specs.CopyLaws.{first-inside, star-next, second-inside, pair-next}
+use Rattle.pooling.specs.CopyLaws.{first-inside, one-next, second-inside, two-next}
 use Rattle.pooling.proofs.copy_out.Statement.{statement}
 use Rattle.pooling.proofs.copy_out.Tie as tie
 
@@ -35,12 +36,12 @@ module _ (c : tie.In-loop Inv-loop μ-loop) where
   long : length (set (asked .args .out .now) 0 (asked .args .i)) ≡ length (asked .args .out .now)
   long = length-set (asked .args .out .now) 0 (asked .args .i)
 
--- the kind of a node past the tests: it has children; it is no Star
-deep : (c : tie.Else1 Inv-loop μ-loop) → 2 < kindOf (c .before .before .node-at .result)
-deep c = omega (arith, c .before .kind-of .ensures)
-
-wide : (c : tie.Else2 Inv-loop μ-loop) → kindOf (c .before .before .before .before .before .before .before .before .node-at .result) ≡ 5 → ⊥
-wide c e = c .if2 .left (c .before .before .before .before .before .before .before .kind-of .ensures ∙ e)
+-- past the tests a node has two children
+two : (c : tie.Else2 Inv-loop μ-loop) → arityOf (c .before .before .before .before .before .before .before .before .node-at .result) ≡ 2
+two c =
+    let told = c .before .before .before .before .before .before .before in
+    arity-two (told .before .node-at .result) (λ e. c .before .before .before .before .before .before .if1 .left (told .arity .ensures ∙ e))
+    (λ e. c .if2 .left (told .arity .ensures ∙ e))
 
 slice-write-out : tie.Need-slice-write-out Inv-loop μ-loop
 slice-write-out c =
@@ -81,8 +82,8 @@ slice-write-out-2 c =
 node-at-requires : tie.Need-node-at-requires Inv-loop μ-loop
 node-at-requires c κs = at-inside (turn (c .before .before)) (some (c .before .before))
 
-kind-of-requires : tie.Need-kind-of-requires Inv-loop μ-loop
-kind-of-requires c κs = search needs
+arity-requires : tie.Need-arity-requires Inv-loop μ-loop
+arity-requires c κs = search needs
 
 loop-less : tie.Need-loop-less Inv-loop μ-loop
 loop-less c =
@@ -92,7 +93,7 @@ loop-less c =
 loop-again : tie.Need-loop-again Inv-loop μ-loop
 loop-again c =
     let c₀ = c .before .before .before .before .before in
-    leaf-next (turn c₀) (some c₀) (c .before .before .node-at .ensures) (omega (arith, c .before .kind-of .ensures))
+    leaf-next (turn c₀) (some c₀) (c .before .before .node-at .ensures) (sym (c .before .arity .ensures) ∙ c .if1 .taken)
 
 first-of-requires : tie.Need-first-of-requires Inv-loop μ-loop
 first-of-requires c κs = search needs
@@ -101,7 +102,7 @@ wait-requires : tie.Need-wait-requires Inv-loop μ-loop
 wait-requires c κs =
     let parent = c .before .before in
     let c₀ = parent .before .before .before .before .before in
-    first-inside (turn c₀) (some c₀) (parent .before .before .node-at .ensures) (deep parent) (c .first-of .ensures)
+    first-inside (turn c₀) (some c₀) (parent .before .before .node-at .ensures)
 
 loop-less-2 : tie.Need-loop-less-2 Inv-loop μ-loop
 loop-less-2 c =
@@ -113,8 +114,8 @@ loop-again-2 c =
     let first = c .before .before .before .before in
     let parent = first .before .before in
     let c₀ = parent .before .before .before .before .before in
-    star-next (turn c₀) (some c₀) (parent .before .before .node-at .ensures) (deep parent) (first .first-of .ensures)
-    (c .before .before .before .wait .ensures) (sym (parent .before .kind-of .ensures) ∙ c .if2 .taken)
+    one-next (turn c₀) (some c₀) (parent .before .before .node-at .ensures) (first .first-of .ensures)
+    (c .before .before .before .wait .ensures) (sym (parent .before .arity .ensures) ∙ c .if2 .taken)
 
 second-of-requires : tie.Need-second-of-requires Inv-loop μ-loop
 second-of-requires c κs = search needs
@@ -124,8 +125,8 @@ wait-requires-2 c κs =
     let first = c .before .before .before .before .before .before in
     let parent = first .before .before in
     let c₀ = parent .before .before .before .before .before in
-    second-inside (turn c₀) (some c₀) (parent .before .before .node-at .ensures) (deep parent) (first .first-of .ensures)
-    (c .before .before .before .before .before .wait .ensures) (wide (c .before .before)) (c .second-of .ensures)
+    second-inside (turn c₀) (some c₀) (parent .before .before .node-at .ensures) (first .first-of .ensures)
+    (c .before .before .before .before .before .wait .ensures) (two (c .before .before)) (c .second-of .ensures)
 
 loop-less-3 : tie.Need-loop-less-3 Inv-loop μ-loop
 loop-less-3 c =
@@ -138,8 +139,8 @@ loop-again-3 c =
     let first = second .before .before .before .before .before .before in
     let parent = first .before .before in
     let c₀ = parent .before .before .before .before .before in
-    pair-next (turn c₀) (some c₀) (parent .before .before .node-at .ensures) (deep parent) (first .first-of .ensures)
-    (second .before .before .before .before .before .wait .ensures) (wide (second .before .before)) (second .second-of .ensures)
+    two-next (turn c₀) (some c₀) (parent .before .before .node-at .ensures) (first .first-of .ensures)
+    (second .before .before .before .before .before .wait .ensures) (two (second .before .before)) (second .second-of .ensures)
     (c .before .before .wait2 .ensures)
 
 same-length : tie.Need-same-length Inv-loop μ-loop
@@ -167,7 +168,7 @@ copy-out-spec =
     mul-out-2
     slice-write-out-2
     node-at-requires
-    kind-of-requires
+    arity-requires
     loop-less
     loop-again
     first-of-requires

@@ -1,16 +1,17 @@
 -- `pooling::put_term` meets its contract: one law a quick way; else what was copied out is the term, and putting the copy puts it.
 -- Assumes nothing.
-use Prim.Native.Nat.{_<_}
 use native.Mathlib.Omega.{arith}
-use Rattle.term.specs.Nodes.{kindOf, Found}
+use mathlib.Core.Path.{_≡_, sym, _∙_}
+use Rattle.term.specs.Nodes.{arityOf, Found}
 use Rattle.term.specs.CellLaws.{found}
+use Rattle.term.specs.ReadLaws.{leaf-below}
 use Rattle.pool.specs.IndexLaws.{open-less}
-use Rattle.pooling.specs.PutLaws.{put-held, leaf-fits, put-leaf}
+use Rattle.pooling.specs.PutLaws.{put-held, put-leaf}
 use borrow.Author.Needs.{needs}
 use Rattle.pooling.proofs.put_term.Statement.{statement}
 use Rattle.pooling.proofs.put_term.Tie as tie
 
--- what the node tells, and of a leaf its kind
+-- what the node tells, and that it has no children
 module _ (c : tie.Then2) where
   abbrev asked : tie.Start
   asked = c .before .before .before .before .before .before .before
@@ -18,8 +19,8 @@ module _ (c : tie.Then2) where
   node : Found (asked .args .cells .now) (asked .args .i) (c .before .before .node-at .result)
   node = found _ _ _ _ (asked .pre .1 .0) (omega arith) (c .before .before .node-at .ensures)
 
-  leaf : kindOf (c .before .before .node-at .result) < 3
-  leaf = omega (arith, c .before .kind-of .ensures)
+  leaf : arityOf (c .before .before .node-at .result) ≡ 0
+  leaf = sym (c .before .arity .ensures) ∙ c .if2 .taken
 
 returns : tie.Need-returns
 returns c = put-held _ _ _ _ _ (c .before .before .before .pre .0) (c .if1 .taken)
@@ -27,13 +28,13 @@ returns c = put-held _ _ _ _ _ (c .before .before .before .pre .0) (c .if1 .take
 node-at-requires : tie.Need-node-at-requires
 node-at-requires c κs = search needs
 
-kind-of-requires : tie.Need-kind-of-requires
-kind-of-requires c κs = search needs
+arity-requires : tie.Need-arity-requires
+arity-requires c κs = search needs
 
 put-node-requires : tie.Need-put-node-requires
 put-node-requires c κs =
     let c₀ = c .before .before in
-    (open-less 1 (asked c₀ .pre .0) (omega arith), leaf-fits _ (node c₀) (leaf c₀))
+    (open-less 1 (asked c₀ .pre .0) (omega arith), leaf-below (node c₀) (leaf c₀) _)
 
 same-length : tie.Need-same-length
 same-length c = search needs
@@ -78,7 +79,7 @@ put-term-spec =
     (tie.spec
     returns
     node-at-requires
-    kind-of-requires
+    arity-requires
     put-node-requires
     same-length
     same-length-2

@@ -1,6 +1,7 @@
 -- `reading::read_runs` meets its contract: what the runs to come leave is what was asked, by one law of reading a row a way through a turn.
 -- The measure is the number of runs to come. Assumes nothing.
 use Prim.Native.Nat.{ℕ, _+_, _-_, _≤_}
+use native.Mathlib.Nat.{add-zero}
 use native.Mathlib.Omega.{arith}
 use mathlib.Core.Path.{_≡_, refl, sym, ap, _∙_}
 use mathlib.Core.List.{List}
@@ -11,7 +12,7 @@ use Rattle.number.specs.Limits.{bytes}
 use Rattle.number.specs.Refused.Answer.{got}
 use Rattle.number.specs.Numbers.{field, taken}
 use Rattle.number.specs.NumberLaws.{field-read}
-use Rattle.table.specs.Sheet.{readRuns}
+use Rattle.table.specs.Sheet.{readRuns, moreRuns}
 use Rattle.reading.specs.Promises.{LaysRow}
 use Rattle.reading.specs.ReadingLaws.{runs-low, runs-end, runs-no-length, runs-long, runs-no-target, runs-same, runs-more}
 use Rattle.reading.specs.ReadingLaws.{row-stopped, row-end, row-more}
@@ -20,13 +21,13 @@ use Rattle.reading.proofs.read_runs.Tie as tie
 
 -- whatever the rest of the row leaves and answers, the whole row does
 abbrev Inv-loop : tie.InvT-loop
-Inv-loop sheet at s k sum last base targets₀ place₀ left₀ covered₀ before₀ targets place left covered before =
+Inv-loop sheet at s count base targets₀ place₀ left₀ covered₀ before₀ targets place left covered before =
     (covered ≤ bytes) × (length targets ≡ length targets₀)
-    × ((t : List ℕ) (r : Taken) → LaysRow (readRuns sheet s left covered before place) s targets (base + covered) t r
-    → LaysRow (readRuns sheet s k sum last at) s targets₀ (base + sum) t r)
+    × ((t : List ℕ) (r : Taken) → LaysRow (moreRuns sheet s left covered before place) s targets (base + covered) t r
+    → LaysRow (readRuns sheet s count at) s targets₀ base t r)
 
 abbrev μ-loop : tie.MeasureT-loop
-μ-loop sheet at s k sum last base targets₀ place₀ left₀ covered₀ before₀ targets place left covered before = left
+μ-loop sheet at s count base targets₀ place₀ left₀ covered₀ before₀ targets place left covered before = left
 
 -- past a `let .. else`, the field that was read is the one that the pattern bound
 length-got : (c : tie.After-length Inv-loop μ-loop)
@@ -42,7 +43,7 @@ target-got : (c : tie.After-leads Inv-loop μ-loop)
 target-got c = sym (c .before .before .read-field2 .ensures .answer) ∙ ap taken (c .leads .given .1)
 
 loop-holds : tie.Need-loop-holds Inv-loop μ-loop
-loop-holds c = (search needs, refl, λ t r h. h)
+loop-holds c = (search needs, refl, λ t r h. rw add-zero at h)
 
 read-field-requires : tie.Need-read-field-requires Inv-loop μ-loop
 read-field-requires c κs = search needs
@@ -146,7 +147,7 @@ loop-again c =
     let size : length (replicate len target) ≡ len = length-replicate len target in
     let width : a .base + (l .covered + len) - (a .base + l .covered) ≡ len = omega arith in
     let run-laid = rw width at (filled .fill .ensures) in
-    let rest = readRuns (a .sheet .now) (a .s) (l .left - 1) (l .covered + len) target (leads .leads .given .0 .1 .0) in (
+    let rest = moreRuns (a .sheet .now) (a .s) (l .left - 1) (l .covered + len) target (leads .leads .given .0 .1 .0) in (
       fits,
       filled .fill .kept .0 ∙ l .inv .1,
       λ t r h. l .inv .2 t r (row-more rest (replicate len target) more (omega (arith, start .pre)) run-laid (omega arith) h),

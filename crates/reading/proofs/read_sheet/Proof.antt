@@ -1,10 +1,9 @@
 -- `reading::read_sheet` meets its contract: each return is one way of reading a sheet, with what was got on the way.
 -- Assumes nothing.
-use native.Mathlib.Nat.{sub-self}
 use native.Mathlib.Omega.{arith}
 use mathlib.Core.Path.{_≡_, refl, sym, ap, _∙_}
 use borrow.Author.Needs.{needs}
-use Rattle.number.specs.Limits.{version, states}
+use Rattle.number.specs.Limits.{sheetVersion, states}
 use Rattle.number.specs.Refused.Answer.{got}
 use Rattle.number.specs.Numbers.{field, taken}
 use Rattle.number.specs.NumberLaws.{field-read}
@@ -17,7 +16,7 @@ use Rattle.reading.proofs.read_sheet.Tie as tie
 -- past each `let .. else`, what was read is what the pattern bound
 version-got : (c : tie.After-version)
     → (let a = c .before .before .before .before .before .before .args in
-    field (a .sheet .now) version version 0 ≡ got (c .version .given .0 .0) (c .version .given .0 .1 .0))
+    field (a .sheet .now) sheetVersion sheetVersion 0 ≡ got (c .version .given .0 .0) (c .version .given .0 .1 .0))
 version-got c = sym (c .before .before .read-field .ensures .answer) ∙ ap taken (c .version .given .1)
 
 count-got : (c : tie.After-count)
@@ -30,7 +29,7 @@ states-got : (c : tie.After-rows)
     → (let counted = c .before .before .before .before .before .before .before .before .before .before in
     let a = counted .before .before .before .before .before .before .before .before .before .before .args in
     let count = counted .count .given .0 in
-    Got (readStates (a .sheet .now) (count .0) (count .0) (count .1 .0)) (λ (rows : Rows). count .0) (c .rows .given .0 .0) (c .rows .given .0 .1 .0))
+    Got (readStates (a .sheet .now) (count .0) (count .1 .0)) (λ (rows : Rows). count .0) (c .rows .given .0 .0) (c .rows .given .0 .1 .0))
 states-got c = rows-got (c .before .before .before .before .before .before .read-states .ensures) (ap taken (c .rows .given .1))
 
 read-field-requires : tie.Need-read-field-requires
@@ -65,7 +64,7 @@ read-states-requires : tie.Need-read-states-requires
 read-states-requires c κs =
     let bounds = field-read _ _ _ _ _ _ (count-got (c .before .before .before)) in
     let p = c .before .before .before .before .before .before .before .before .before .before .before .before .before .pre in
-    (bounds .low, bounds .high, search needs, omega (arith, p .0), omega (arith, p .1))
+    (bounds .low, bounds .high, omega (arith, p .0), omega (arith, p .1))
 
 enum-known-rows : tie.Need-enum-known-rows
 enum-known-rows c = search needs
@@ -84,7 +83,7 @@ returns-3 c =
     let told = ap taken (c .enum-told3 .given .1) in
     let counted = c .before .before .before .before .before .before .before .before .before .before in
     let count = counted .count .given .0 in
-    let rows = readStates (counted .before .before .before .before .before .before .before .before .before .before .args .sheet .now) (count .0) (count .0) (count .1 .0) in
+    let rows = readStates (counted .before .before .before .before .before .before .before .before .before .before .args .sheet .now) (count .0) (count .1 .0) in
     let refused-at = rows-refused {x = rows} (c .before .before .before .before .before .before .read-states .ensures) told in
     table-stopped _ (sheet-no-states _ states (version-got (counted .before .before .before .before)) (count-got counted) refused-at) told
 
@@ -110,7 +109,7 @@ returns-5 c =
     let counted = c .before .before .before .before .before .before .before .before .before .before .before .before in
     let rows = states-got (c .before .before) in
     let whole = sheet-got _ states (version-got (counted .before .before .before .before)) (count-got counted) (rows .is) (c .if1 .left) in
-    table-got whole (rows .is) (sub-self _) (c .before .before .before .before .before .before .before .before .read-states .ensures) refl
+    table-got whole (rows .is) (c .before .before .before .before .before .before .before .before .read-states .ensures) refl
 
 pub read-sheet-spec : {M : Type 1} → statement M
 read-sheet-spec =

@@ -1,7 +1,7 @@
 -- `reading::read_states` meets its contract: what the states to come leave is what was asked, by one law of reading states a way through a turn.
 -- The measure is the number of states to come. Assumes nothing.
-use Prim.Native.Nat.{ℕ, _+_, _-_, _*_, _≤_}
-use native.Mathlib.Nat.{add-zero}
+use Prim.Native.Nat.{ℕ, _-_, _*_, _≤_}
+use native.Mathlib.Nat.{sub-self}
 use native.Mathlib.Omega.{arith}
 use mathlib.Core.Path.{_≡_, refl, sym, ap, _∙_}
 use mathlib.Core.List.{List}
@@ -12,7 +12,7 @@ use Rattle.number.specs.Limits.{rules, bytes}
 use Rattle.number.specs.Refused.Answer.{got}
 use Rattle.number.specs.Numbers.{field, taken}
 use Rattle.number.specs.NumberLaws.{field-read}
-use Rattle.table.specs.Sheet.{readRuns, readStates}
+use Rattle.table.specs.Sheet.{readRuns, readStates, moreStates}
 use Rattle.reading.specs.Promises.{LaysRows}
 use Rattle.reading.specs.ReadingLaws.{runs-cover, RowGot, row-got, row-refused}
 use Rattle.reading.specs.ReadingLaws.{states-end, states-no-label, states-no-count, states-no-row, states-more}
@@ -22,13 +22,13 @@ use Rattle.reading.proofs.read_states.Tie as tie
 
 -- whatever the rest of the states leaves and answers, all of them do
 abbrev Inv-loop : tie.InvT-loop
-Inv-loop sheet at s k labels₀ targets₀ place₀ left₀ labels targets place left =
+Inv-loop sheet at s labels₀ targets₀ place₀ left₀ labels targets place left =
     (left ≤ s) × (length labels ≡ length labels₀) × (length targets ≡ length targets₀)
-    × ((l t : List ℕ) (r : Taken) → LaysRows (readStates sheet s left place) s (s - left) labels targets l t r
-    → LaysRows (readStates sheet s k at) s (s - k) labels₀ targets₀ l t r)
+    × ((l t : List ℕ) (r : Taken) → LaysRows (moreStates sheet s left place) s (s - left) labels targets l t r
+    → LaysRows (readStates sheet s at) s 0 labels₀ targets₀ l t r)
 
 abbrev μ-loop : tie.MeasureT-loop
-μ-loop sheet at s k labels₀ targets₀ place₀ left₀ labels targets place left = left
+μ-loop sheet at s labels₀ targets₀ place₀ left₀ labels targets place left = left
 
 -- past each `let .. else`, what was read is what the pattern bound
 label-got : (c : tie.After-named Inv-loop μ-loop)
@@ -49,12 +49,12 @@ runs-got : (c : tie.After-row Inv-loop μ-loop)
     let loop = counted .before .before .before .before .before .before .before .before in
     let a = loop .before .before .before .before .args in
     let count = counted .count .given .0 in
-    RowGot (readRuns (a .sheet .now) (a .s) (count .0) 0 (a .s) (count .1 .0))
-    (loop .loop .targets) ((a .s - loop .loop .left) * bytes + 0) (called .read-runs .last .1 .1 .1 .1 .1 .1 .1 .0) (c .row .given .0 .1 .0))
+    RowGot (readRuns (a .sheet .now) (a .s) (count .0) (count .1 .0))
+    (loop .loop .targets) ((a .s - loop .loop .left) * bytes) (called .read-runs .last .1 .1 .1 .1 .1 .0) (c .row .given .0 .1 .0))
 runs-got c = row-got (c .before .before .before .before .read-runs .ensures) (ap taken (c .row .given .1))
 
 loop-holds : tie.Need-loop-holds Inv-loop μ-loop
-loop-holds c = (search needs, refl, refl, λ l t r h. h)
+loop-holds c = (search needs, refl, refl, λ l t r h. rw sub-self at h)
 
 read-field-requires : tie.Need-read-field-requires Inv-loop μ-loop
 read-field-requires c κs = search needs
@@ -114,7 +114,7 @@ mul-read-runs : tie.Need-mul-read-runs Inv-loop μ-loop
 mul-read-runs c = search needs
 
 read-runs-requires : tie.Need-read-runs-requires Inv-loop μ-loop
-read-runs-requires c κs = (omega arith, omega arith, omega arith, omega arith)
+read-runs-requires c κs = (omega arith, omega arith, omega arith)
 
 enum-known-row : tie.Need-enum-known-row Inv-loop μ-loop
 enum-known-row c = search needs
@@ -131,7 +131,7 @@ same-length-6 : tie.Need-same-length-6 Inv-loop μ-loop
 same-length-6 c =
     let row = c .before .before .before .before in
     let loop = row .before .before .before .before .before .before .before .before .before .before .before in
-    row .read-runs .kept .1 .1 .1 .1 .1 .1 .1 .0 ∙ loop .loop .inv .2
+    row .read-runs .kept .1 .1 .1 .1 .1 .0 ∙ loop .loop .inv .2
 
 returns-3 : tie.Need-returns-3 Inv-loop μ-loop
 returns-3 c =
@@ -142,7 +142,7 @@ returns-3 c =
     let label = counted .before .before .before .before in
     let l = label .before .before .before .before .loop in
     let a = label .before .before .before .before .before .before .before .before .args in
-    let runs = readRuns (a .sheet .now) (a .s) (count .0) 0 (a .s) (count .1 .0) in
+    let runs = readRuns (a .sheet .now) (a .s) (count .0) (count .1 .0) in
     let refused-at = row-refused {x = runs} (row .read-runs .ensures) told in
     l .inv .3 _ _ _
     (rows-stopped _ (states-no-row _ _ _ _ (l .left - 1) (omega arith) (label-got label) (count-got counted) refused-at) told)
@@ -168,12 +168,12 @@ loop-again c =
     let size : length (g .row) ≡ bytes = omega (arith, rw (g .is) at covers) in
     let more = states-more (a .sheet .now) (a .s) (l .left) (l .place) (l .left - 1) (omega arith)
     (label-got named) (count-got counted) (g .is) in
-    let rest = readStates (a .sheet .now) (a .s) (l .left - 1) (c .before .row .given .0 .1 .0) in (
+    let rest = moreStates (a .sheet .now) (a .s) (l .left - 1) (c .before .row .given .0 .1 .0) in (
       omega (arith, l .inv .0),
       simp length-set (l .inv .1),
-      called .read-runs .kept .1 .1 .1 .1 .1 .1 .1 .0 ∙ l .inv .2,
+      called .read-runs .kept .1 .1 .1 .1 .1 .0 ∙ l .inv .2,
       λ ls ts r h. l .inv .3 ls ts r (rows-more rest (named .named .given .0 .0) (g .row) more
-          (omega (arith, l .inv .0, l .inv .1, p .3)) (omega (arith, l .inv .0, l .inv .2, p .4)) refl (rw add-zero at (g .cells)) size
+          (omega (arith, l .inv .0, l .inv .1, p .2)) (omega (arith, l .inv .0, l .inv .2, p .3)) refl (g .cells) size
           (omega (arith, l .inv .0)) h),
     )
 

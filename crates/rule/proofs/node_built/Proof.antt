@@ -55,7 +55,7 @@ either-built-requires : tie.Need-either-built-requires
 either-built-requires c κs =
     let o = c .before .before .before .before .before .pre in
     let w = node-within o (Either _) (c .before .before .node2 .given .1) in
-    (o .sound, (omega (arith, o .room), (w .0, w .1)))
+    (o .sound, (omega (arith, o .room), w .1))
 
 same-length : tie.Need-same-length
 same-length c = search needs

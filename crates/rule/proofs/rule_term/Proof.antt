@@ -19,27 +19,27 @@ use Rattle.rule.proofs.rule_term.Tie as tie
 
 -- the work that is left can be done, and what it makes is the rule's
 abbrev Inv-loop : tie.InvT-loop
-Inv-loop book rule cells₀ top stack₀ height₀ at₀ left₀ free₀ cells stack height at left free =
-    Working book at left cells free stack height × (length cells ≡ length cells₀)
-    × ((s : List ℕ) (r : Made) → Worked book at left cells free stack height s r → RuleMade book rule cells₀ top s r)
+Inv-loop book rule cells₀ top version stack₀ height₀ at₀ left₀ free₀ cells stack height at left free =
+    Working book version at left cells free stack height × (length cells ≡ length cells₀)
+    × ((s : List ℕ) (r : Made) → Worked book version at left cells free stack height s r → RuleMade book rule cells₀ top s r)
 
 abbrev μ-loop : tie.MeasureT-loop
-μ-loop book rule cells₀ top stack₀ height₀ at₀ left₀ free₀ cells stack height at left free = left
+μ-loop book rule cells₀ top version stack₀ height₀ at₀ left₀ free₀ cells stack height at left free = left
 
 -- what is known in a turn whose node was read: the loop as the turn began it, and the step that the node makes
 module _ (c : tie.After-known-told Inv-loop μ-loop) where
   abbrev turn : tie.At-loop Inv-loop μ-loop
   turn = c .before .before .before .before .before
 
-  working : Working (turn .before .before .before .before .args .book .now) (turn .loop .at) (turn .loop .left) (turn .loop .cells) (turn .loop .free)
+  working : Working (turn .before .before .before .before .args .book .now) (turn .before .rule-place .result .version) (turn .loop .at) (turn .loop .left) (turn .loop .cells) (turn .loop .free)
       (turn .loop .stack) (turn .loop .height)
   working = turn .loop .inv .0
 
   step-of : (k : ℕ) → k ≡ takes (c .before .node .given .0 .0)
-      → Step (turn .before .before .before .before .args .book .now) (turn .loop .at) (turn .loop .left) (turn .loop .height)
-      (c .before .node .given .0 .0) (c .before .node .given .0 .1 .0) k
+      → Step (turn .before .before .before .before .args .book .now) (turn .before .rule-place .result .version) (turn .loop .at) (turn .loop .left)
+      (turn .loop .height) (c .before .node .given .0 .0) (c .before .node .given .0 .1 .0) k
   step-of k e =
-      step-read _ _ _ _ _ _ k (working .standing) (c .before .before .before .before .loop-test .taken)
+      step-read _ _ _ _ _ _ _ k (working .standing) (c .before .before .before .before .loop-test .taken)
       (node-told (c .before .before .before .read-node .ensures) (c .before .node .given .1)) e
 
 rule-place-requires : tie.Need-rule-place-requires Inv-loop μ-loop
@@ -51,7 +51,7 @@ loop-holds c =
     let all : Bytes (c .before .before .before .args .book .now) = λ i h. omega (arith, c .before .before .shared-slice-known .given i) in (
       rule-works _ _ (p .0) all _ (c .rule-place .ensures) (p .1 .0) (p .1 .1),
       refl,
-      λ s r m. rule-made _ _ (p .0) all _ (c .rule-place .ensures) _ (p .1 .0) m,
+      λ s r m. rule-made _ _ (p .0) all _ (c .rule-place .ensures) (p .1 .0) m,
     )
 
 mul-a : tie.Need-mul-a Inv-loop μ-loop
@@ -91,7 +91,7 @@ returns : tie.Need-returns Inv-loop μ-loop
 returns c =
     let loop = c .before .before .before .before in
     absurd
-    (not-refused _ _ _ _ _ (loop .loop .inv .0 .standing) (c .before .before .before .loop-test .taken)
+    (not-refused _ _ _ _ _ _ (loop .loop .inv .0 .standing) (c .before .before .before .loop-test .taken)
     (sym (c .before .before .read-node .ensures) ∙ ap nodeRead (c .enum-told .given .1)))
 
 node-term-requires : tie.Need-node-term-requires Inv-loop μ-loop
@@ -124,7 +124,8 @@ module _ (c : tie.After-takes Inv-loop μ-loop) where
   abbrev read : tie.After-known-told Inv-loop μ-loop
   read = c .before .before .before .before .before .before .before .before
 
-  step : Step (turn read .before .before .before .before .args .book .now) (turn read .loop .at) (turn read .loop .left) (turn read .loop .height)
+  step : Step (turn read .before .before .before .before .args .book .now) (turn read .before .rule-place .result .version) (turn read .loop .at)
+      (turn read .loop .left) (turn read .loop .height)
       (read .before .node .given .0 .0) (read .before .node .given .0 .1 .0) (c .takes .result)
   step = step-of read _ (c .takes .ensures)
 
@@ -164,17 +165,17 @@ loop-again c =
       λ s r m. inv .2 s r (step-made (inv .0) (step c) refl refl x m),
     )
 
-add-t32 : tie.Need-add-t32 Inv-loop μ-loop
-add-t32 c = search needs
+add-t33 : tie.Need-add-t33 Inv-loop μ-loop
+add-t33 c = search needs
 
-mul-t33 : tie.Need-mul-t33 Inv-loop μ-loop
-mul-t33 c = search needs
+mul-t34 : tie.Need-mul-t34 Inv-loop μ-loop
+mul-t34 c = search needs
 
-array-read-t36 : tie.Need-array-read-t36 Inv-loop μ-loop
-array-read-t36 c = omega (arith, c .before .loop .inv .0 .places)
+array-read-t37 : tie.Need-array-read-t37 Inv-loop μ-loop
+array-read-t37 c = omega (arith, c .before .loop .inv .0 .places)
 
-cast-t37 : tie.Need-cast-t37 Inv-loop μ-loop
-cast-t37 c = let small = c .before .loop .inv .0 .small (c .before .loop .height + 1) (omega (arith, c .before .loop .inv .0 .places)) in search needs
+cast-t38 : tie.Need-cast-t38 Inv-loop μ-loop
+cast-t38 c = let small = c .before .loop .inv .0 .small (c .before .loop .height + 1) (omega (arith, c .before .loop .inv .0 .places)) in search needs
 
 same-length-3 : tie.Need-same-length-3 Inv-loop μ-loop
 same-length-3 c = search needs
@@ -219,9 +220,9 @@ rule-term-spec =
     sub-left
     loop-less
     loop-again
-    add-t32
-    mul-t33
-    array-read-t36
-    cast-t37
+    add-t33
+    mul-t34
+    array-read-t37
+    cast-t38
     same-length-3
     returns-3)

@@ -40,7 +40,7 @@ load-requires c κs =
     record { long = p .long; few = omega (arith, p .few) }
 
 label-of-requires : tie.Need-label-of-requires Inv-loop μ-loop
-label-of-requires c κs = rw (c .load .ensures) (c .before .before .before .before .before .pre .reads (c .before .before .loop .k) (omega arith))
+label-of-requires c κs = (rw (c .load .ensures) (c .before .before .before .before .before .pre .reads (c .before .before .loop .k) (omega arith)), omega arith)
 
 add-state-of : tie.Need-add-state-of Inv-loop μ-loop
 add-state-of c = omega (arith, c .before .before .before .before .before .before .pre .few)

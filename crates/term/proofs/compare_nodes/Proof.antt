@@ -1,6 +1,5 @@
 -- `term::compare_nodes` meets its contract: one law of the order a return, over what the two nodes told.
 -- Assumes nothing.
-use Prim.Native.Nat.{_<_}
 use native.Mathlib.Omega.{arith}
 use mathlib.Core.Path.{_≡_, sym, _∙_}
 use borrow.Author.Needs.{needs}
@@ -22,13 +21,10 @@ module _ (c : tie.After-kind-of2) where
   y : Found (start .args .cells .now) (start .args .j) (c .before .before .node-at2 .result)
   y = found _ _ _ _ (start .pre .1) (omega arith) (c .before .before .node-at2 .ensures)
 
--- past the tests of the kinds: the kinds are one, and one with children
+-- past the tests of the kinds they are one
 same : (c : tie.Else3) → kindOf (c .before .before .before .before .before .node-at .result)
     ≡ kindOf (c .before .before .before .before .node-at2 .result)
 same c = omega (arith, c .before .before .before .kind-of .ensures, c .before .before .kind-of2 .ensures)
-
-deep : (c : tie.Else4) → 2 < kindOf (c .before .before .before .before .before .before .node-at .result)
-deep c = omega (arith, c .before .before .before .before .kind-of .ensures)
 
 returns : tie.Need-returns
 returns c = record { shown = sym (order-one _ _ _ (c .if1 .taken)) }
@@ -48,12 +44,15 @@ kind-of-requires-2 c κs = search needs
 returns-2 : tie.Need-returns-2
 returns-2 c =
     let nodes = c .before in
-    record { shown = sym (order-less _ _ _ _ _ (x nodes) (y nodes) (omega (arith, nodes .before .kind-of .ensures, nodes .kind-of2 .ensures))) }
+    record { shown = sym (order-less (x nodes) (y nodes) (omega (arith, nodes .before .kind-of .ensures, nodes .kind-of2 .ensures))) }
 
 returns-3 : tie.Need-returns-3
 returns-3 c =
     let nodes = c .before .before in
-    record { shown = sym (order-more _ _ _ _ _ (x nodes) (y nodes) (omega (arith, nodes .before .kind-of .ensures, nodes .kind-of2 .ensures))) }
+    record { shown = sym (order-more (x nodes) (y nodes) (omega (arith, nodes .before .kind-of .ensures, nodes .kind-of2 .ensures))) }
+
+arity-requires : tie.Need-arity-requires
+arity-requires c κs = search needs
 
 first-of-requires : tie.Need-first-of-requires
 first-of-requires c κs = search needs
@@ -73,10 +72,10 @@ compare-pairs-requires c κs = search needs
 returns-4 : tie.Need-returns-4
 returns-4 c =
     let test = c .before .before .before .before .before in
-    let nodes = test .before .before .before in
+    let nodes = test .before .before .before .before in
     record {
-      shown = c .compare-pairs .ensures ∙ sym (order-leaf _ _ _ _ _ (x nodes) (y nodes) (same (test .before))
-          (omega (arith, nodes .before .kind-of .ensures, test .if4 .taken)) (c .before .before .before .before .first-of .ensures)
+      shown = c .compare-pairs .ensures ∙ sym (order-leaf (x nodes) (y nodes) (same (test .before .before))
+          (sym (test .before .arity .ensures) ∙ test .if4 .taken) (c .before .before .before .before .first-of .ensures)
           (c .before .before .before .second-of .ensures) (c .before .before .first-of2 .ensures) (c .before .second-of2 .ensures));
     }
 
@@ -89,9 +88,10 @@ first-of-requires-4 c κs = search needs
 returns-5 : tie.Need-returns-5
 returns-5 c =
     let test = c .before .before in
-    let nodes = test .before .before .before .before in
+    let told = test .before .before in
+    let nodes = told .before .before .before in
     record {
-      shown = only (x nodes) (y nodes) (same (test .before .before)) (sym (nodes .before .kind-of .ensures) ∙ test .if5 .taken)
+      shown = only (x nodes) (y nodes) (same (told .before)) (sym (told .arity .ensures) ∙ test .if5 .taken)
           (c .before .first-of3 .ensures) (c .first-of4 .ensures);
     }
 
@@ -110,10 +110,11 @@ second-of-requires-4 c κs = search needs
 returns-6 : tie.Need-returns-6
 returns-6 c =
     let test = c .before .before .before .before in
-    let nodes = test .before .before .before .before in
+    let told = test .before .before in
+    let nodes = told .before .before .before in
     record {
-      shown = both (x nodes) (y nodes) (same (test .before .before)) (deep (test .before))
-          (λ z. test .if5 .left (nodes .before .kind-of .ensures ∙ z)) (c .before .before .before .first-of5 .ensures)
+      shown = both (x nodes) (y nodes) (same (told .before)) (λ z. test .before .if4 .left (told .arity .ensures ∙ z))
+          (λ z. test .if5 .left (told .arity .ensures ∙ z)) (c .before .before .before .first-of5 .ensures)
           (c .before .before .first-of6 .ensures) (c .before .second-of3 .ensures) (c .second-of4 .ensures);
     }
 
@@ -128,6 +129,7 @@ compare-nodes-spec =
     kind-of-requires-2
     returns-2
     returns-3
+    arity-requires
     first-of-requires
     second-of-requires
     first-of-requires-2

@@ -6,9 +6,9 @@ use mathlib.Core.Path.{_≡_, sym, _∙_}
 use lib.ListN.{getD}
 use borrow.Author.Needs.{needs}
 use Rattle.term.specs.Cells.{nodeOf}
-use Rattle.term.specs.Nodes.{kindOf}
+use Rattle.term.specs.Nodes.{arityOf}
 use Rattle.term.specs.Counts.{Countable, Counting}
-use Rattle.term.specs.CountLaws.{counting-first, at-inside, told-long, told-short, last-inside, leaf-next, star-next, end-inside, pair-next}
+use Rattle.term.specs.CountLaws.{counting-first, at-inside, told-long, told-short, last-inside, leaf-next, one-next, end-inside, two-next}
 use Rattle.term.proofs.is_short.Statement.{statement}
 use Rattle.term.proofs.is_short.Tie as tie
 
@@ -19,7 +19,7 @@ abbrev μ-loop : tie.MeasureT-loop
 μ-loop cells₀ top i at₀ end₀ left₀ cells at end left = left
 
 -- what is known in a turn whose node was read: the loop as the turn began it, that a node is left, and the node
-module _ (c : tie.After-kind-of Inv-loop μ-loop) where
+module _ (c : tie.After-arity Inv-loop μ-loop) where
   abbrev loop : tie.At-loop Inv-loop μ-loop
   loop = c .before .before .before .before
 
@@ -38,9 +38,9 @@ module _ (c : tie.After-kind-of Inv-loop μ-loop) where
   told : c .before .node-at .result ≡ nodeOf (getD (loop .loop .cells) (loop .loop .at) 0)
   told = c .before .node-at .ensures
 
--- and of a leaf its kind
-leaf : (c : tie.Then1 Inv-loop μ-loop) → kindOf (c .before .before .node-at .result) < 3
-leaf c = omega (arith, c .before .kind-of .ensures)
+-- and of a leaf that it has no children
+leaf : (c : tie.Then1 Inv-loop μ-loop) → arityOf (c .before .before .node-at .result) ≡ 0
+leaf c = sym (c .before .arity .ensures) ∙ c .if1 .taken
 
 loop-holds : tie.Need-loop-holds Inv-loop μ-loop
 loop-holds c = counting-first (c .before .pre)
@@ -51,8 +51,8 @@ sub-left c = search needs
 node-at-requires : tie.Need-node-at-requires Inv-loop μ-loop
 node-at-requires c κs = at-inside (c .before .before .before .before .pre) (c .before .before .loop .inv)
 
-kind-of-requires : tie.Need-kind-of-requires Inv-loop μ-loop
-kind-of-requires c κs = search needs
+arity-requires : tie.Need-arity-requires Inv-loop μ-loop
+arity-requires c κs = search needs
 
 same-length : tie.Need-same-length Inv-loop μ-loop
 same-length c = invariant (c .before .before) .wasted .same-length
@@ -93,7 +93,7 @@ loop-less-2 c = search needs
 loop-again-2 : tie.Need-loop-again-2 Inv-loop μ-loop
 loop-again-2 c =
     let turn = c .before .before .before in
-    star-next (asked turn) (invariant turn) (some turn) (told turn) (sym (turn .kind-of .ensures) ∙ c .if3 .taken) (c .before .first-of .ensures)
+    one-next (asked turn) (invariant turn) (some turn) (told turn) (sym (turn .arity .ensures) ∙ c .if3 .taken) (c .before .first-of .ensures)
 
 second-of-requires : tie.Need-second-of-requires Inv-loop μ-loop
 second-of-requires c κs = search needs
@@ -118,8 +118,8 @@ loop-less-3 c = search needs
 loop-again-3 : tie.Need-loop-again-3 Inv-loop μ-loop
 loop-again-3 c =
     let turn = c .before .before .before .before in
-    pair-next (asked turn) (invariant turn) (some turn) (told turn) (omega (arith, turn .kind-of .ensures, c .before .before .before .if1 .left))
-    (λ e. c .before .if3 .left (turn .kind-of .ensures ∙ e)) (c .before .before .first-of .ensures) (c .second-of .ensures)
+    two-next (asked turn) (invariant turn) (some turn) (told turn) (λ e. c .before .before .before .if1 .left (turn .arity .ensures ∙ e))
+    (λ e. c .before .if3 .left (turn .arity .ensures ∙ e)) (c .before .before .first-of .ensures) (c .second-of .ensures)
 
 same-length-2 : tie.Need-same-length-2 Inv-loop μ-loop
 same-length-2 c = c .before .loop .inv .wasted .same-length
@@ -136,7 +136,7 @@ is-short-spec =
     loop-holds
     sub-left
     node-at-requires
-    kind-of-requires
+    arity-requires
     same-length
     returns
     sub-end

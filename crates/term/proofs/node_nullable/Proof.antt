@@ -1,8 +1,9 @@
 -- `term::node_nullable` meets its contract: one law of the empty text a return.
 -- Assumes nothing.
 use mathlib.Core.Path.{sym, _∙_}
-use Rattle.term.specs.CellLaws.{over-cat, over-alt}
+use Rattle.term.specs.CellLaws.{over-children}
 use Rattle.term.specs.ReadLaws.{nothing-null, empty-null, range-null, star-null, cat-null-on, cat-null-off, alt-null-on, alt-null-off}
+use Rattle.term.specs.declared.Term.the-variants.{Cat, Alt}
 use borrow.Author.Needs.{needs}
 use Rattle.term.proofs.node_nullable.Statement.{statement}
 use Rattle.term.proofs.node_nullable.Tie as tie
@@ -20,19 +21,21 @@ enum-known-node : tie.Need-enum-known-node
 enum-known-node c = search needs
 
 nullable-requires : tie.Need-nullable-requires
-nullable-requires c κs = over-cat (c .before .before .before .before .pre) (c .before .node .given .1) .0
+nullable-requires c κs = over-children (Cat _ _) (c .before .before .before .before .pre) (c .before .node .given .1) .0
 
 nullable-requires-2 : tie.Need-nullable-requires-2
-nullable-requires-2 c κs = over-cat (c .before .before .before .before .before .before .pre) (c .before .before .before .node .given .1) .1
+nullable-requires-2 c κs =
+    over-children (Cat _ _) (c .before .before .before .before .before .before .pre) (c .before .before .before .node .given .1) .1 .0
 
 enum-known-node-2 : tie.Need-enum-known-node-2
 enum-known-node-2 c = search needs
 
 nullable-requires-3 : tie.Need-nullable-requires-3
-nullable-requires-3 c κs = over-alt (c .before .before .before .before .pre) (c .before .node2 .given .1) .0
+nullable-requires-3 c κs = over-children (Alt _ _) (c .before .before .before .before .pre) (c .before .node2 .given .1) .0
 
 nullable-requires-4 : tie.Need-nullable-requires-4
-nullable-requires-4 c κs = over-alt (c .before .before .before .before .before .before .pre) (c .before .before .before .node2 .given .1) .1
+nullable-requires-4 c κs =
+    over-children (Alt _ _) (c .before .before .before .before .before .before .pre) (c .before .before .before .node2 .given .1) .1 .0
 
 enum-told-4 : tie.Need-enum-told-4
 enum-told-4 c = search needs

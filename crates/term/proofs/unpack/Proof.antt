@@ -1,49 +1,22 @@
--- `term::unpack` meets its contract: one kind a return, as `nodeOf` asks them.
+-- `term::unpack` meets its contract: the node of a cell is that of its kind over its fields.
 -- Assumes nothing.
-use borrow.Author.Tests.{ne-eqb}
-use Rattle.term.specs.Cells.{nodeOf}
 use borrow.Author.Needs.{needs}
+use Rattle.term.specs.Cells.{nodeOf}
 use Rattle.term.proofs.unpack.Statement.{statement}
 use Rattle.term.proofs.unpack.Tie as tie
 
-mul-second : tie.Need-mul-second
-mul-second c = search needs
+mul-rebuilt : tie.Need-mul-rebuilt
+mul-rebuilt c = search needs
 
-div-second : tie.Need-div-second
-div-second c = search needs
+div-rebuilt : tie.Need-div-rebuilt
+div-rebuilt c = search needs
+
+rebuilt-requires : tie.Need-rebuilt-requires
+rebuilt-requires c κs = search needs
 
 returns : tie.Need-returns
 unfolding nodeOf
-returns c = simp (c .if1 .taken)
-
-returns-2 : tie.Need-returns-2
-unfolding nodeOf
-returns-2 c = simp (c .if2 .taken)
-
-returns-3 : tie.Need-returns-3
-unfolding nodeOf
-returns-3 c = simp (c .if3 .taken)
-
-returns-4 : tie.Need-returns-4
-unfolding nodeOf
-returns-4 c = simp (c .if4 .taken)
-
-returns-5 : tie.Need-returns-5
-unfolding nodeOf
-returns-5 c = simp (c .if5 .taken)
-
-returns-6 : tie.Need-returns-6
-unfolding nodeOf
-returns-6 c = simp (
-  ne-eqb _ _ (c .before .before .before .before .if1 .left),
-  ne-eqb _ _ (c .before .before .before .if2 .left),
-  ne-eqb _ _
-      (c .before .before .if3 .left),
-  ne-eqb _ _ (c .before .if4 .left),
-  ne-eqb _ _ (c .if5 .left),
-)
+returns c = c .rebuilt .ensures
 
 pub unpack-spec : {M : Type 1} → statement M
-unpack-spec =
-    tie.close
-    (tie.spec mul-second div-second returns returns-2 returns-3 returns-4 returns-5 returns-6)
+unpack-spec = tie.close (tie.spec mul-rebuilt div-rebuilt rebuilt-requires returns)

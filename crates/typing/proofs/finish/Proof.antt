@@ -1,7 +1,7 @@
 -- `typing::finish` meets its contract: one law a return.
 -- Assumes nothing.
 use native.Mathlib.Omega.{arith}
-use Rattle.number.specs.Limits.{version}
+use Rattle.number.specs.Limits.{firstVersion}
 use Rattle.laid.specs.ByteLaws.{width-most}
 use Rattle.typing.specs.SumLaws.{finish-out, finish-none, finish-book}
 use borrow.Author.Needs.{needs}
@@ -18,13 +18,13 @@ returns-2 : tie.Need-returns-2
 returns-2 c = finish-none _ _ _ _ (c .before .if1 .left) (c .if2 .taken)
 
 write-number-requires : tie.Need-write-number-requires
-write-number-requires c κs = (omega arith, omega (arith, width-most version, c .before .before .before .before .before .before .pre .1))
+write-number-requires c κs = (omega arith, omega (arith, width-most firstVersion, c .before .before .before .before .before .before .pre .1))
 
 write-number-requires-2 : tie.Need-write-number-requires-2
-write-number-requires-2 c κs = (omega (arith, c .before .before .before .before .before .before .before .before .before .before .pre .0 .few), omega (arith, width-most version, width-most (c .before .before .before .before .before .before .before .before .before .before .args .sum .rules), c .before .before .before .write-number .ensures .0, c .before .before .before .write-number .kept .1 .0, c .before .before .before .before .before .before .before .before .before .before .pre .1))
+write-number-requires-2 c κs = (omega (arith, c .before .before .before .before .before .before .before .before .before .before .pre .0 .few), omega (arith, width-most firstVersion, width-most (c .before .before .before .before .before .before .before .before .before .before .args .sum .rules), c .before .before .before .write-number .ensures .0, c .before .before .before .write-number .kept .1 .0, c .before .before .before .before .before .before .before .before .before .before .pre .1))
 
 copy-requires : tie.Need-copy-requires
-copy-requires c κs = let r = c .before .before .before .before .before .before .before .before .before .before .before .before .before .before .pre .0 in (omega (arith, r .few, r .small, r .short, r .book-is), omega (arith, r .few, r .small, r .short, width-most version, width-most (c .before .before .before .before .before .before .before .before .before .before .before .before .before .before .args .sum .rules), c .before .before .before .before .before .before .before .write-number .ensures .0, c .before .before .before .before .before .before .before .write-number .kept .1 .0, c .before .before .before .write-number2 .ensures .0, c .before .before .before .write-number2 .kept .1 .0, c .before .before .before .before .before .before .before .before .before .before .before .before .before .before .pre .1))
+copy-requires c κs = let r = c .before .before .before .before .before .before .before .before .before .before .before .before .before .before .pre .0 in (omega (arith, r .few, r .small, r .short, r .book-is), omega (arith, r .few, r .small, r .short, width-most firstVersion, width-most (c .before .before .before .before .before .before .before .before .before .before .before .before .before .before .args .sum .rules), c .before .before .before .before .before .before .before .write-number .ensures .0, c .before .before .before .before .before .before .before .write-number .kept .1 .0, c .before .before .before .write-number2 .ensures .0, c .before .before .before .write-number2 .kept .1 .0, c .before .before .before .before .before .before .before .before .before .before .before .before .before .before .pre .1))
 
 same-length : tie.Need-same-length
 same-length c = search needs

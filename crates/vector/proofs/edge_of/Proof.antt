@@ -32,7 +32,7 @@ next-edge-requires : tie.Need-next-edge-requires Inv-loop μ-loop
 next-edge-requires c κs =
     let o = c .before .before .before .before in
     let i = c .before .loop .i in
-    (o .pre .0 .sound i (omega arith), (o .pre .0 .is-short i (omega arith), o .pre .1))
+    (o .pre .0 .reads .sound i (omega arith), (o .pre .0 .is-short i (omega arith), o .pre .1))
 
 add-i : tie.Need-add-i Inv-loop μ-loop
 add-i c = search needs
@@ -45,7 +45,7 @@ loop-again c =
     let l = c .before .before .before .loop in
     let o = c .before .before .before .before .before .before in
     let e = c .before .next-edge .ensures in
-    let r = o .pre .0 in (
+    let r = o .pre .0 .reads in (
       search needs,
       search needs,
       ⊎-elim
@@ -59,7 +59,7 @@ returns c =
     let l = c .before .loop in
     let o = c .before .before .before .before in
     let e : l .i ≡ o .args .n = omega arith in
-    least-last (o .args .cells .now) (o .args .n) (o .args .v .at) (o .args .byte) (l .least) (o .pre .0) (rw e at (l .inv .2))
+    least-last (o .args .cells .now) (o .args .n) (o .args .v .at) (o .args .byte) (l .least) (o .pre .0 .reads) (rw e at (l .inv .2))
 
 pub edge-of-spec : {M : Type 1} → statement M
 edge-of-spec =

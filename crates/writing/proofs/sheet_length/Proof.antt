@@ -4,7 +4,7 @@ use Prim.Native.Nat.{_*_}
 use native.Mathlib.Omega.{arith}
 use borrow.Author.Needs.{needs}
 use lib.ListN.{take}
-use Rattle.number.specs.Limits.{version, bytes}
+use Rattle.number.specs.Limits.{sheetVersion, bytes}
 use Rattle.number.specs.NumberLaws.{width-most}
 use Rattle.writing.specs.WritingLaws.{part-states-short, sheet-is}
 use Rattle.writing.proofs.sheet_length.Statement.{statement}
@@ -21,7 +21,7 @@ add-head c =
     omega (
       arith,
       c .before .number-width .ensures,
-      width-most version,
+      width-most sheetVersion,
       c .number-width2 .ensures,
       width-most (c .before .before .before .before .args .count),
     )
@@ -36,7 +36,7 @@ add-result c =
     omega (
       arith,
       c .before .before .number-width .ensures,
-      width-most version,
+      width-most sheetVersion,
       c .before .number-width2 .ensures,
       width-most (a .count),
       c .states-length .ensures,

@@ -7,7 +7,7 @@ use mathlib.Core.Bool.{true}
 use borrow.Author.Needs.{needs}
 use borrow.Author.Tests.{not-true, not-false}
 use lib.ListN.{length, take}
-use Rattle.number.specs.Limits.{version, bytes}
+use Rattle.number.specs.Limits.{sheetVersion, bytes}
 use Rattle.number.specs.Numbers.{writeNumber}
 use Rattle.number.specs.Lists.{Writes}
 use Rattle.table.specs.Table.{wellFormed}
@@ -32,7 +32,7 @@ fitting c = well-fits _ _ _ (well c)
 -- past the second test there is room for its three parts
 roomy : (c : tie.Else2)
     → (let a = c .before .before .before .before .before .before .before .args in
-    length (writeNumber version) + length (writeNumber (a .count))
+    length (writeNumber sheetVersion) + length (writeNumber (a .count))
     + length (writeStates (take (a .count) (a .labels .now)) (take (a .count * bytes) (a .targets .now)))
     ≤ length (a .out .now))
 roomy c =
@@ -41,7 +41,7 @@ roomy c =
 
 version-written : (c : tie.After-write-number)
     → (let a = c .before .before .before .before .before .before .before .before .before .args in
-    Writes (writeNumber version) (a .out .now) (c .write-number .last .1 .0) 0 (c .write-number .result))
+    Writes (writeNumber sheetVersion) (a .out .now) (c .write-number .last .1 .0) 0 (c .write-number .result))
 version-written c = record { place = c .write-number .ensures .0; out = c .write-number .ensures .1 }
 
 count-written : (c : tie.After-write-number2)
