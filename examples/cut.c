@@ -1,5 +1,6 @@
 /* A worked example: a rule book is built, texts are cut by its table, and the table is kept as a sheet and compared with the book.
-   The rules are `1` (rule 0) and `1.1` (rule 1); at the end others are typed as text, and cut by in the same way.
+   The rules are `1` (rule 0) and `1.1` (rule 1); at the end others are typed as text, and cut by in the same way, and a book of version 2
+   takes notes between slash-star and star-slash for words.
    tools/example builds and runs this, and holds it to examples/cut.out. */
 #include <stdio.h>
 #include <string.h>
@@ -205,6 +206,29 @@ static void bad_numbers(void)
     explain("load", code, answer[0]);
 }
 
+/* A note, and words of small letters. Between the two signs of a note stands a text that is not (Not, 8) one with the second sign in it. */
+static void notes(void)
+{
+    static const uint8_t noted[] = {
+        2, 2,
+        9, 18, 2, '/', '/', 2, '*', '*', 3,
+        2, 0, 0xFF, 1, 5, 2, '*', '*', 3, 2, '/', '/', 3, 2, 0, 0xFF, 1, 5, 3, 8, 3,
+        2, '*', '*', 3, 2, '/', '/', 3,
+        2, 4, 2, 'a', 'z', 2, 'a', 'z', 5, 3,
+    };
+    used = noted;
+    used_length = sizeof noted;
+    size_t count = build(used_length);
+    cut(count, "to/* a */go");
+    cut(count, "/*/* **/to/*");
+    /* Version 1 has no Not: its code is refused where it stands. */
+    static uint8_t first[sizeof noted];
+    memcpy(first, noted, sizeof noted);
+    first[0] = 1;
+    used = first;
+    build(used_length);
+}
+
 int main(void)
 {
     size_t answer[LUBI_ANSWER];
@@ -255,5 +279,7 @@ int main(void)
     type_rules("1:to\n2:<lower+\n", LUBI_BOOK);
     type_rules("1:to\n16384:<lower>+\n", LUBI_BOOK);
     type_rules("1:to\n2:<lower>+\n", LUBI_BOOK - 1);
+
+    notes();
     return 0;
 }

@@ -21,7 +21,7 @@
 
    STACK. What each call needs at most stands below as LUBI_STACK_..., in bytes: a thread that calls nothing else needs that much, and what
    its own functions take. These figures were measured on inputs made to be deep and have a margin (docs/STACK.md); `tools/stack` measures
-   them again, and fails where one is exceeded. Building and comparing go as deep as the deepest term, 170 levels at most, and typing as deep
+   them again, and fails where one is exceeded. Building and comparing go as deep as the deepest term, 255 levels at most, and typing as deep
    as there are parentheses open, 33 levels at most; no other call's stack grows with its input. The library calls memset and memcpy: where
    the loader binds these only when they are first called, that once took 3,200 bytes more, for which the figures have room. */
 #ifndef LUBIRANGUK_H
@@ -52,11 +52,11 @@ enum {
     LUBI_STACK_CHECK_BOOK = 1024,
     LUBI_STACK_RULE_KIND = 1024,
     LUBI_STACK_WELL_FORMED = 256,
-    LUBI_STACK_BUILD = 49152,
+    LUBI_STACK_BUILD = 65536,
     LUBI_STACK_LOAD = 4096,
     LUBI_STACK_WRITE_SHEET = 1024,
     LUBI_STACK_CUT_FROM = 512,
-    LUBI_STACK_COMPARE = 49152
+    LUBI_STACK_COMPARE = 65536
 };
 
 /* codes */
@@ -97,7 +97,7 @@ enum { LUBI_SAME = 0, LUBI_DIFFERS = 1 };
    is no line). On a refusal all of `out` is unchanged. A text may have any length. */
 size_t lubi_type(const uint8_t *text, size_t text_length, uint8_t *out, size_t out_length, size_t answer[LUBI_ANSWER]);
 
-/* Checks a rule book.
+/* Checks a rule book, of version 1 or of version 2, which alone has the nodes And (code 7) and Not (code 8).
    answer: the number of rules, the number of nodes of all rules together.
    Refuses what is wrong in the book, at the byte where it is wrong: 1 to 5, and LUBI_PADDED. A number that cannot be read is wrong at its
    first byte. */

@@ -1,7 +1,7 @@
 //! Rule books: the expressions of their rules, reading them with every refusal at
 //! its place, and writing a book from a value (also a book that breaks the limits).
 
-use crate::limits::{KIND, NODES, RULES, VERSION};
+use crate::limits::{KIND, LAST_CODES, LAST_VERSION, NODES, RULES, VERSION};
 use crate::number::{self, Reader};
 use crate::refusal::{refuse, Fault, Refusal};
 
@@ -15,6 +15,8 @@ pub enum Expr {
     Alt(Box<Expr>, Box<Expr>),
     Star(Box<Expr>),
     Either(u8),
+    And(Box<Expr>, Box<Expr>),
+    Not(Box<Expr>),
 }
 
 /// One rule: its kind and what it matches.
@@ -24,9 +26,10 @@ pub struct Rule {
     pub expr: Expr,
 }
 
-/// The rules of a book in order.
+/// The version of a book and its rules in order.
 #[derive(Clone, Debug, PartialEq, Eq)]
 pub struct Book {
+    pub version: usize,
     pub rules: Vec<Rule>,
 }
 
@@ -40,6 +43,14 @@ pub fn alt(a: Expr, b: Expr) -> Expr {
 
 pub fn star(a: Expr) -> Expr {
     Expr::Star(Box::new(a))
+}
+
+pub fn and(a: Expr, b: Expr) -> Expr {
+    Expr::And(Box::new(a), Box::new(b))
+}
+
+pub fn not(a: Expr) -> Expr {
+    Expr::Not(Box::new(a))
 }
 
 /// The expression of exactly one byte.
@@ -66,20 +77,30 @@ impl Expr {
     /// The number of nodes that the expression takes in a book.
     pub fn nodes(&self) -> usize {
         match self {
-            Expr::Cat(a, b) | Expr::Alt(a, b) => 1 + a.nodes() + b.nodes(),
-            Expr::Star(a) => 1 + a.nodes(),
+            Expr::Cat(a, b) | Expr::Alt(a, b) | Expr::And(a, b) => 1 + a.nodes() + b.nodes(),
+            Expr::Star(a) | Expr::Not(a) => 1 + a.nodes(),
             _ => 1,
+        }
+    }
+
+    /// The first version of books that have all its nodes.
+    pub fn version(&self) -> usize {
+        match self {
+            Expr::And(..) | Expr::Not(_) => 2,
+            Expr::Cat(a, b) | Expr::Alt(a, b) => a.version().max(b.version()),
+            Expr::Star(a) => a.version(),
+            _ => VERSION,
         }
     }
 
     /// Calls `visit` on every leaf, from left to right.
     pub fn leaves(&self, visit: &mut dyn FnMut(&Expr)) {
         match self {
-            Expr::Cat(a, b) | Expr::Alt(a, b) => {
+            Expr::Cat(a, b) | Expr::Alt(a, b) | Expr::And(a, b) => {
                 a.leaves(visit);
                 b.leaves(visit);
             }
-            Expr::Star(a) => a.leaves(visit),
+            Expr::Star(a) | Expr::Not(a) => a.leaves(visit),
             leaf => visit(leaf),
         }
     }
@@ -104,6 +125,15 @@ impl Expr {
                 a.write(out);
                 vec![5]
             }
+            Expr::And(a, b) => {
+                a.write(out);
+                b.write(out);
+                vec![7]
+            }
+            Expr::Not(a) => {
+                a.write(out);
+                vec![8]
+            }
         };
         for value in numbers {
             number::write(value.into(), out);
@@ -115,7 +145,13 @@ impl Book {
     /// A book of the given expressions, rule i having kind i + 1.
     pub fn of(exprs: Vec<Expr>) -> Book {
         let numbered = exprs.into_iter().enumerate();
-        Book { rules: numbered.map(|(i, expr)| Rule { kind: i + 1, expr }).collect() }
+        Book::with(numbered.map(|(i, expr)| Rule { kind: i + 1, expr }).collect())
+    }
+
+    /// A book of the given rules, of the first version that has all their nodes.
+    pub fn with(rules: Vec<Rule>) -> Book {
+        let version = rules.iter().map(|rule| rule.expr.version()).max().unwrap_or(VERSION);
+        Book { version, rules }
     }
 
     /// The node total.
@@ -126,7 +162,7 @@ impl Book {
     /// The book's bytes; limits are not looked at.
     pub fn write(&self) -> Vec<u8> {
         let mut out = Vec::new();
-        number::write(VERSION, &mut out);
+        number::write(self.version, &mut out);
         number::write(self.rules.len(), &mut out);
         for rule in &self.rules {
             number::write(rule.kind, &mut out);
@@ -152,8 +188,13 @@ impl Book {
 
 /// Reads a whole book.
 pub fn read(bytes: &[u8]) -> Result<Book, Refusal> {
+    read_to(LAST_VERSION, bytes)
+}
+
+/// Reads a whole book of at most such a version, as older readers do.
+pub fn read_to(last: usize, bytes: &[u8]) -> Result<Book, Refusal> {
     let mut reader = Reader::new(bytes);
-    reader.field(VERSION, VERSION)?;
+    let version = reader.field(VERSION, last)?;
     let count = reader.field(1, RULES)?;
     let mut left = NODES;
     let mut rules = Vec::new();
@@ -162,21 +203,21 @@ pub fn read(bytes: &[u8]) -> Result<Book, Refusal> {
         // With no node left even a count of 1 is out of its field.
         let nodes = reader.field(1, left)?;
         left -= nodes;
-        rules.push(Rule { kind, expr: read_nodes(&mut reader, nodes)? });
+        rules.push(Rule { kind, expr: read_nodes(&mut reader, version, nodes)? });
     }
     reader.end()?;
-    Ok(Book { rules })
+    Ok(Book { version, rules })
 }
 
 /// Reads the nodes of one rule, keeping the terms that are still open.
-fn read_nodes(reader: &mut Reader, count: usize) -> Result<Expr, Refusal> {
+fn read_nodes(reader: &mut Reader, version: usize, count: usize) -> Result<Expr, Refusal> {
     let mut open: Vec<Expr> = Vec::new();
     for _ in 0..count {
         let place = reader.at();
-        let code = reader.field(0, 6)?;
+        let code = reader.field(0, LAST_CODES[version - 1])?;
         let takes = match code {
-            3 | 4 => 2,
-            5 => 1,
+            3 | 4 | 7 => 2,
+            5 | 8 => 1,
             _ => 0,
         };
         if open.len() < takes {
@@ -207,6 +248,8 @@ fn read_node(reader: &mut Reader, code: usize, taken: Vec<Expr>) -> Result<Expr,
         3 => cat(term(), term()),
         4 => alt(term(), term()),
         5 => star(term()),
-        _ => Expr::Either(reader.field(97, 122)? as u8),
+        6 => Expr::Either(reader.field(97, 122)? as u8),
+        7 => and(term(), term()),
+        _ => not(term()),
     })
 }

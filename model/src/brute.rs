@@ -21,6 +21,11 @@ pub fn texts(expr: &Expr, alphabet: &[u8], most: usize) -> Texts {
             all.extend(texts(b, alphabet, most));
             all
         }
+        Expr::And(a, b) => &texts(a, alphabet, most) & &texts(b, alphabet, most),
+        Expr::Not(a) => {
+            let all: Texts = all_texts(alphabet, most).into_iter().collect();
+            &all - &texts(a, alphabet, most)
+        }
         Expr::Star(a) => {
             // Zero texts joined, then one more, until nothing new is short enough.
             let once = texts(a, alphabet, most);
@@ -132,6 +137,8 @@ pub fn ends(expr: &Expr, text: &[u8], from: usize) -> BTreeSet<usize> {
         Expr::Either(x) => byte(&|c| c == *x || c == *x - 32),
         Expr::Cat(a, b) => ends(a, text, from).iter().flat_map(|&mid| ends(b, text, mid)).collect(),
         Expr::Alt(a, b) => &ends(a, text, from) | &ends(b, text, from),
+        Expr::And(a, b) => &ends(a, text, from) & &ends(b, text, from),
+        Expr::Not(a) => &(from..=text.len()).collect::<BTreeSet<usize>>() - &ends(a, text, from),
         Expr::Star(a) => {
             let mut reached = BTreeSet::from([from]);
             let mut open = vec![from];

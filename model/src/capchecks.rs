@@ -2,10 +2,12 @@
 //! pass a limit, the order of limits at one step, and what raising the caps changes.
 
 use crate::book::{self, Book};
+use crate::both::{both_edges, both_meetings, other_edges};
 use crate::build::{alike, build_by, compare, compare_by};
 use crate::comparisons;
 use crate::edges::{all, crossing_book, meetings, memory_book, Edge, Meeting};
 use crate::limits::{Caps, CAPS, OLDER, SHEET_FILE, SHOWN};
+use crate::notes::notes_meetings;
 use crate::programs;
 use crate::raised_builds::raised_edges;
 use crate::raised_meetings::{raised_meetings, slowest};
@@ -46,12 +48,13 @@ pub fn run(checks: &mut Checks) {
 
 /// Books at a limit, older or raised.
 fn all_edges() -> impl Iterator<Item = Edge> {
-    all().into_iter().chain(raised_edges())
+    all().into_iter().chain(raised_edges()).chain(both_edges()).chain(other_edges())
 }
 
 /// Comparisons at a limit, older or raised, and those that turn on the start.
 fn all_meetings() -> impl Iterator<Item = Meeting> {
-    meetings().into_iter().chain(starts()).chain(raised_meetings())
+    let later = notes_meetings().into_iter().chain(both_meetings());
+    meetings().into_iter().chain(starts()).chain(raised_meetings()).chain(later)
 }
 
 /// What the reading and the build of a book at a limit give.

@@ -3,7 +3,8 @@
 
 use crate::book::Book;
 use crate::build::{alike, build, compare_by};
-use crate::damage::{damage, lengthen};
+use crate::damage::damage;
+use crate::drawn::drawn_case;
 use crate::edges::{crossing_book, filled, growing, remembering};
 use crate::limits::{Caps, BOOK_FILE, CAPS, PAIRS, POOL, RULES, SHEET_FILE, STATES, TEXT_FILE};
 use crate::prng::Rng;
@@ -75,39 +76,30 @@ pub fn put_cases(count: usize, seed: u64, folder: &Path) -> io::Result<()> {
     for number in 1..=count {
         let case = match first.get(number - 1) {
             Some(case) => case.clone(),
-            None => perhaps_lengthened(&mut Rng::part(seed, number as u64)),
+            None => drawn_case(&mut Rng::part(seed, number as u64)),
         };
         case.put(&folder.join(format!("{number:05}")))?;
     }
     Ok(())
 }
 
-/// A random case, in which a number of the book or of the sheet may be too long.
-fn perhaps_lengthened(rng: &mut Rng) -> Case {
-    let mut case = random_case(rng);
-    let (file, name) = match rng.below(100) {
-        0..=11 => (&mut case.book, ", a number of the book too long"),
-        12..=29 => (&mut case.sheet, ", a number of the sheet too long"),
-        _ => return case,
-    };
-    if let File::Bytes(bytes) = file {
-        lengthen(rng, bytes);
-        case.name += name;
-    }
-    case
+/// A random case of version 1; stored cases are among them, so that a seed must go on
+/// giving the same.
+pub fn random_case(rng: &mut Rng) -> Case {
+    let (name, book) = random_book(rng);
+    case_of(rng, name, &book)
 }
 
-/// A random case; stored cases are among them, so that a seed must go on giving the same.
-pub fn random_case(rng: &mut Rng) -> Case {
-    let (book_name, book) = random_book(rng);
-    let (text_name, text) = random_text(rng, &book);
-    let (sheet_name, sheet) = random_sheet(rng, &book);
+/// A random case of the given book.
+pub fn case_of(rng: &mut Rng, book_name: &str, book: &Book) -> Case {
+    let (text_name, text) = random_text(rng, book);
+    let (sheet_name, sheet) = random_sheet(rng, book);
     let (fault, bytes) = spoilt(rng, book.write(), BOOK_FILE);
     let name = format!("{book_name} book{fault}, {text_name} text, {sheet_name}");
     Case { name, book: bytes, text, sheet }
 }
 
-fn random_book(rng: &mut Rng) -> (&'static str, Book) {
+pub fn random_book(rng: &mut Rng) -> (&'static str, Book) {
     match rng.below(100) {
         0..=14 => ("small", small_book(rng, 4, 14)),
         15..=41 => ("looping", looping_book(rng)),

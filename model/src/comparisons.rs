@@ -28,11 +28,16 @@ pub fn run(checks: &mut Checks) {
         let looping = rng.chance(60);
         let book = if looping { looping_book(&mut rng) } else { small_book(&mut rng, 2, 7) };
         if let Ok(table) = build(&book) {
-            within_caps(checks, &mut rng, &book, &table);
-            if seed % 4 == 0 {
-                answers(checks, &mut rng, &book, &table);
-            }
+            told(checks, &mut rng, &book, &table, seed % 4 == 0);
         }
+    }
+}
+
+/// Comparisons of a book that builds, within small caps, and their answers if asked for.
+pub fn told(checks: &mut Checks, rng: &mut Rng, book: &Book, table: &Table, answered: bool) {
+    within_caps(checks, rng, book, table);
+    if answered {
+        answers(checks, rng, book, table);
     }
 }
 

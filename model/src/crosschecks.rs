@@ -36,7 +36,7 @@ pub fn run(checks: &mut Checks) {
 }
 
 /// A few bytes for a book's texts, no two of them alike.
-fn few_bytes(rng: &mut Rng, book: &Book, count: usize) -> Vec<u8> {
+pub fn few_bytes(rng: &mut Rng, book: &Book, count: usize) -> Vec<u8> {
     let mut bytes = alike(book).to_vec();
     bytes.sort();
     bytes.dedup();
@@ -80,15 +80,15 @@ fn order(checks: &mut Checks) {
 /// Tree nodes, counted.
 fn size(term: &Term) -> usize {
     match &term.shape {
-        Shape::Cat(a, b) | Shape::Alt(a, b) => 1 + size(a) + size(b),
-        Shape::Star(a) => 1 + size(a),
+        Shape::Cat(a, b) | Shape::Alt(a, b) | Shape::And(a, b) => 1 + size(a) + size(b),
+        Shape::Star(a) | Shape::Not(a) => 1 + size(a),
         _ => 1,
     }
 }
 
 /// Normal forms and derivatives are normal, of the right size, and match the empty
 /// text when the sets of texts say so.
-fn terms(checks: &mut Checks, rng: &mut Rng, book: &Book) {
+pub fn terms(checks: &mut Checks, rng: &mut Rng, book: &Book) {
     for rule in &book.rules {
         let Ok(term) = normal(&rule.expr) else {
             continue;
@@ -108,7 +108,7 @@ fn terms(checks: &mut Checks, rng: &mut Rng, book: &Book) {
 }
 
 /// The labels of all short texts are those of the sets.
-fn labels(checks: &mut Checks, rng: &mut Rng, book: &Book, table: &Table) {
+pub fn labels(checks: &mut Checks, rng: &mut Rng, book: &Book, table: &Table) {
     let bytes = few_bytes(rng, book, 3);
     let meaning = Meaning::of(book, &bytes, 5);
     let texts = all_texts(&bytes, 5);
@@ -126,7 +126,7 @@ fn labels(checks: &mut Checks, rng: &mut Rng, book: &Book, table: &Table) {
 }
 
 /// Cuts are those of the sets, whatever the room, and tile the text.
-fn cuts(checks: &mut Checks, rng: &mut Rng, book: &Book, table: &Table) {
+pub fn cuts(checks: &mut Checks, rng: &mut Rng, book: &Book, table: &Table) {
     let length = rng.within(0, 24);
     let text = match rng.chance(50) {
         true => joined_text(rng, book, length),
@@ -158,7 +158,7 @@ fn cuts(checks: &mut Checks, rng: &mut Rng, book: &Book, table: &Table) {
 }
 
 /// Laws of the walk for books near the limits; `slow` derives by every byte.
-fn walks(checks: &mut Checks, rng: &mut Rng, book: &Book, slow: bool) {
+pub fn walks(checks: &mut Checks, rng: &mut Rng, book: &Book, slow: bool) {
     let built = build_by(book, &alike(book), CAPS);
     if slow {
         every_byte(checks, rng, book, &built);

@@ -3,8 +3,12 @@
 
 /// Greatest number of seven-bit groups in one number.
 pub const GROUPS: usize = 3;
-/// The only version of books and sheets.
+/// The only version of sheets, and the first one of books.
 pub const VERSION: usize = 1;
+/// The last version of books.
+pub const LAST_VERSION: usize = 2;
+/// The greatest code of a node in a book of each version.
+pub const LAST_CODES: [usize; LAST_VERSION] = [6, 8];
 /// Greatest number of rules in a book, and so the greatest label.
 pub const RULES: usize = 32;
 /// Greatest kind of a rule.

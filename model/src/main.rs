@@ -4,6 +4,8 @@
 mod advice;
 mod advice_checks;
 mod book;
+mod both;
+mod bothchecks;
 mod brute;
 mod build;
 mod capchecks;
@@ -12,9 +14,11 @@ mod comparisons;
 mod crosschecks;
 mod cut;
 mod damage;
+mod drawn;
 mod edges;
 mod faults;
 mod limits;
+mod notes;
 mod number;
 mod numberchecks;
 mod padded;
@@ -25,6 +29,7 @@ mod raised_builds;
 mod raised_meetings;
 mod raised_sheets;
 mod random;
+mod random_both;
 mod refusal;
 mod selftest;
 mod sheet;
@@ -48,6 +53,7 @@ mod typed_sets;
 mod typed_short;
 mod typed_stored;
 mod typed_wrong;
+mod versions;
 mod worked;
 
 use std::fs;
@@ -57,7 +63,7 @@ use std::process::ExitCode;
 
 const USAGE: &str = "model cut DIR | compare DIR | sheet DIR | rules DIR | advice DIR
     | typed AREA | cases N SEED OUT | typed-cases N SEED OUT | stored DIR
-    | typed-stored DIR | limits | selftest | selftest typed";
+    | typed-stored DIR | limits | selftest | selftest both | selftest typed";
 
 fn main() -> ExitCode {
     let arguments: Vec<String> = std::env::args().skip(1).collect();
@@ -103,6 +109,7 @@ fn run(words: &[&str]) -> io::Result<bool> {
         ["typed-stored", folder] => typed_stored::put_typed_stored(Path::new(folder))?,
         ["limits"] => capchecks::print_limits(),
         ["selftest"] => return Ok(selftest::run()),
+        ["selftest", "both"] => return Ok(selftest::run_both()),
         ["selftest", "typed"] => return Ok(selftest::run_typed()),
         _ => return Err(io::Error::other(USAGE)),
     }

@@ -1,11 +1,12 @@
 //! What the program `test_cases` has to print for a case: the build, the cut with room for
 //! a few words, the sheet written back, and the comparison.
 
-use crate::book;
+use crate::book::{self, Book};
 use crate::build::{alike, build_by, compare_by, Built};
 use crate::cases::Case;
 use crate::cut::{cut, End, Word};
-use crate::limits::Caps;
+use crate::limits::{Caps, LAST_VERSION};
+use crate::refusal::Refusal;
 use crate::sheet::{self, Table};
 
 /// Words for which the program's list has room.
@@ -26,12 +27,18 @@ pub struct Printed {
 impl Printed {
     /// Within the given caps; they also say how many states a sheet may have.
     pub fn of(case: &Case, caps: Caps) -> Printed {
+        Printed::to(LAST_VERSION, case, caps)
+    }
+
+    /// The same by a reader of books of at most such a version.
+    pub fn to(last: usize, case: &Case, caps: Caps) -> Printed {
         let bytes = case.book.bytes().unwrap_or_default();
         let sheet = case.sheet.bytes().unwrap_or_default();
         let read = sheet::read_to(caps.states, sheet);
         let back = read.map_or_else(|_| String::new(), |table| back(&table, sheet));
-        let (comparison, shown) = compared(bytes, sheet, caps);
-        let built = book::read(bytes).and_then(|book| build_by(&book, &alike(&book), caps));
+        let book = book::read_to(last, bytes);
+        let (comparison, shown) = compared(&book, sheet, caps);
+        let built = book.and_then(|book| build_by(&book, &alike(&book), caps));
         let (build, words, cut) = match built {
             Err(refusal) => (refusal.line(), String::new(), String::new()),
             Ok(Built { table, .. }) => {
@@ -86,10 +93,10 @@ fn back(table: &Table, sheet: &[u8]) -> String {
 
 /// The comparison by the library: the sheet is loaded before the book is read. The
 /// first line is told apart from that of the shown text.
-fn compared(book: &[u8], sheet: &[u8], caps: Caps) -> (String, String) {
+fn compared(book: &Result<Book, Refusal>, sheet: &[u8], caps: Caps) -> (String, String) {
     let compared = |table: Table| {
-        let book = book::read(book)?;
-        Ok(compare_by(&book, &table, &alike(&book), caps)?.answer)
+        let book = book.as_ref().map_err(|&refusal| refusal)?;
+        Ok(compare_by(book, &table, &alike(book), caps)?.answer)
     };
     let answer = sheet::read_to(caps.states, sheet).and_then(compared);
     let lines = answer.map_or_else(|refusal| refusal.line(), |answer| answer.lines());

@@ -2,9 +2,10 @@
 //! to their start, wide ones, ones that look like a scanner's, heavy ones that come near
 //! the limits of a build.
 
-use crate::book::{alt, cat, choice, literal, one, power, star, Book, Expr, Rule};
+use crate::book::{alt, and, cat, choice, literal, not, one, power, star, Book, Expr, Rule};
 use crate::limits::{KIND, NODES, RULES};
 use crate::prng::Rng;
+use crate::random_both::{sample_beside, sample_of_both};
 
 /// A rising list of a few bytes, from which an expression or a text is made.
 pub fn alphabet(rng: &mut Rng) -> Vec<u8> {
@@ -43,7 +44,7 @@ pub fn expr(rng: &mut Rng, alphabet: &[u8], budget: usize) -> Expr {
     }
 }
 
-fn leaf(rng: &mut Rng, alphabet: &[u8]) -> Expr {
+pub fn leaf(rng: &mut Rng, alphabet: &[u8]) -> Expr {
     match rng.below(40) {
         0 => Expr::Nothing,
         1 | 2 => Expr::Empty,
@@ -65,6 +66,8 @@ pub fn plain(expr: &Expr, letters: [u8; 3]) -> Expr {
         Expr::Cat(a, b) => cat(plain(a, letters), plain(b, letters)),
         Expr::Alt(a, b) => alt(plain(a, letters), plain(b, letters)),
         Expr::Star(a) => star(plain(a, letters)),
+        Expr::And(a, b) => and(plain(a, letters), plain(b, letters)),
+        Expr::Not(a) => not(plain(a, letters)),
         Expr::Range(lo, hi) if *lo < low || high < *hi => Expr::Range(low, high),
         Expr::Either(_) => one(high),
         leaf => leaf.clone(),
@@ -80,8 +83,8 @@ pub fn kind(rng: &mut Rng) -> usize {
     }
 }
 
-fn with_kinds(rng: &mut Rng, exprs: Vec<Expr>) -> Book {
-    Book { rules: exprs.into_iter().map(|expr| Rule { kind: kind(rng), expr }).collect() }
+pub fn with_kinds(rng: &mut Rng, exprs: Vec<Expr>) -> Book {
+    Book::with(exprs.into_iter().map(|expr| Rule { kind: kind(rng), expr }).collect())
 }
 
 /// A book of few small rules over few bytes.
@@ -248,6 +251,8 @@ pub fn sample(rng: &mut Rng, expr: &Expr) -> Option<Vec<u8>> {
             }
             Some(text)
         }
+        Expr::And(a, b) => sample_of_both(rng, a, b),
+        Expr::Not(a) => sample_beside(rng, a),
     }
 }
 

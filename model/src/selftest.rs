@@ -1,8 +1,9 @@
 //! The model's test of itself, first part: books and the sample book with its worked
 //! lines, behind `numberchecks`; then come `sheetchecks`, `capchecks`, `crosschecks`,
-//! `comparisons` and `typed_checks`.
+//! `bothchecks`, `comparisons` and `typed_checks`.
 
 use crate::book;
+use crate::bothchecks;
 use crate::brute;
 use crate::capchecks;
 use crate::comparisons;
@@ -22,6 +23,7 @@ use crate::sheet;
 use crate::sheetchecks;
 use crate::sheets;
 use crate::typed_checks;
+use crate::versions;
 use crate::worked::{sample_book, sample_table, OUTPUT, SAMPLE, TEXT};
 
 /// Counts checks and names those that fail.
@@ -60,8 +62,16 @@ pub fn run() -> bool {
     sheetchecks::run(&mut checks);
     capchecks::run(&mut checks);
     crosschecks::run(&mut checks);
+    bothchecks::run(&mut checks);
     comparisons::run(&mut checks);
     typed_checks::run(&mut checks);
+    checks.end()
+}
+
+/// Runs the checks of And and Not alone.
+pub fn run_both() -> bool {
+    let mut checks = Checks::default();
+    bothchecks::run(&mut checks);
     checks.end()
 }
 
@@ -113,7 +123,8 @@ fn books(checks: &mut Checks) {
 /// The files written by hand; fault 0 is none.
 fn faulty(checks: &mut Checks) {
     let found = |refusal: Option<Refusal>| refusal.map_or((0, 0), |r| (r.fault as u8, r.place));
-    for (bytes, fault, place) in faults::BOOKS.iter().chain(padded::BOOKS) {
+    let later = versions::BOOKS.iter().chain(versions::MORE);
+    for (bytes, fault, place) in faults::BOOKS.iter().chain(padded::BOOKS).chain(later) {
         let read = found(book::read(bytes).err());
         checks.check(&format!("book {bytes:02X?}: {read:?}"), read == (*fault, *place));
     }

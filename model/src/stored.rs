@@ -5,7 +5,8 @@ use crate::book;
 use crate::build::build;
 use crate::cases::{random_case, Case};
 use crate::damage::damage;
-use crate::limits::{CAPS, OLDER};
+use crate::limits::{CAPS, OLDER, VERSION};
+use crate::notes::notes_cases;
 use crate::padded::{padded_book_cases, padded_sheet_cases, twice_padded_cases};
 use crate::printed::{kind, Printed};
 use crate::prng::Rng;
@@ -14,10 +15,11 @@ use crate::random::{joined_text, scanner_book, small_book};
 use crate::refusal::Refusal;
 use crate::sheet;
 use crate::sheets::{shuffled, with_spare};
+use crate::versions::version_cases;
 use crate::worked::{
-    book_fault_cases, case, limit_cases, meeting_cases, older_longest_cases, raised_limit_cases,
-    raised_meeting_cases, sample_cases, sample_table, sheet_fault_cases, start_cases,
-    state_count_cases, SAMPLE, TEXT,
+    book_fault_cases, both_limit_cases, case, limit_cases, meeting_cases, notes_meeting_cases,
+    older_longest_cases, raised_limit_cases, raised_meeting_cases, sample_cases, sample_table,
+    sheet_fault_cases, start_cases, state_count_cases, SAMPLE, TEXT,
 };
 use std::collections::BTreeMap;
 use std::fs;
@@ -38,6 +40,10 @@ const EACH: usize = 8;
 /// Random cases, and those with the same kinds of answers past the older caps.
 const RANDOM: usize = 118;
 const ALIKE: usize = 2;
+
+/// The last version of books when the random and the damaged ones were chosen. They are
+/// chosen by it still, so that they keep their files.
+const CHOSEN: usize = VERSION;
 
 /// Random cases that are looked at.
 const TRIED: u64 = 3_000;
@@ -77,6 +83,10 @@ fn groups() -> Vec<Group> {
         group("books by hand, a number padded, going on or short", false, padded_book_cases()),
         group("sheets by hand, a number padded, going on or short", false, padded_sheet_cases()),
         group("a book and a sheet with such numbers", false, twice_padded_cases()),
+        group("books of versions 0 to 3, codes up to 9", false, version_cases()),
+        group("texts with notes, by the book's sheet and a greedy one", true, notes_cases()),
+        group("comparisons of a book of notes", true, notes_meeting_cases(rng)),
+        group("books with And and Not", true, both_limit_cases(rng)),
     ]
 }
 
@@ -130,7 +140,7 @@ fn damaged_books(rng: &mut Rng) -> Vec<Case> {
         let book = if rng.chance(50) { small_book(rng, 4, 14) } else { scanner_book(rng) };
         let mut bytes = book.write();
         damage(rng, &mut bytes);
-        if book::read(&bytes).is_err_and(|refusal| places.wants(refusal)) {
+        if book::read_to(CHOSEN, &bytes).is_err_and(|refusal| places.wants(refusal)) {
             cases.push(case("damaged book", &bytes, b"", &own));
         }
     }
@@ -160,7 +170,8 @@ fn random_cases() -> Vec<Case> {
     for number in 1..=TRIED {
         let case = random_case(&mut Rng::part(SEED, number));
         let Some(whole) = whole_files(&case, SMALL) else { continue };
-        let kinds = Printed::of(&case, CAPS).kinds().into_iter().map(chosen_by).collect();
+        let printed = Printed::to(CHOSEN, &case, CAPS);
+        let kinds = printed.kinds().into_iter().map(chosen_by).collect();
         let count = alike.entry(kinds).or_default();
         *count += 1;
         if whole || *count == 1 {
@@ -183,7 +194,7 @@ fn raised_random_cases() -> Vec<Case> {
         if whole_files(&case, LARGE) != Some(true) {
             continue;
         }
-        let (old, new) = (Printed::of(&case, OLDER), Printed::of(&case, CAPS));
+        let [old, new] = [OLDER, CAPS].map(|caps| Printed::to(CHOSEN, &case, caps));
         if old.text() == new.text() {
             continue;
         }
@@ -200,7 +211,7 @@ fn raised_random_cases() -> Vec<Case> {
 fn whole_files(case: &Case, most: usize) -> Option<bool> {
     let (book, sheet) = (case.book.bytes()?, case.sheet.bytes()?);
     let small = book.len().max(sheet.len()).max(case.text.len()) <= most;
-    small.then(|| book::read(book).is_ok() && sheet::read(sheet).is_ok())
+    small.then(|| book::read_to(CHOSEN, book).is_ok() && sheet::read(sheet).is_ok())
 }
 
 /// Writes the files of a case; an empty file is left out, and a text that is not cut.

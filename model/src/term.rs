@@ -17,6 +17,8 @@ pub enum Shape {
     Cat(Term, Term),
     Alt(Term, Term),
     Star(Term),
+    And(Term, Term),
+    Not(Term),
 }
 
 /// A shape with facts that follow from it, so they never decide an order.
@@ -54,6 +56,8 @@ fn node(shape: Shape) -> Made {
         Shape::Cat(a, b) => (1 + a.size + b.size, a.empty && b.empty),
         Shape::Alt(a, b) => (1 + a.size + b.size, a.empty || b.empty),
         Shape::Star(a) => (1 + a.size, true),
+        Shape::And(a, b) => (1 + a.size + b.size, a.empty && b.empty),
+        Shape::Not(a) => (1 + a.size, !a.empty),
     };
     if size > TERM {
         return Err(TooLong);
@@ -87,31 +91,65 @@ pub fn cat(a: &Term, b: &Term) -> Made {
     }
 }
 
-/// Either of two terms.
+/// Either of two terms; members that are Nothing are dropped.
 pub fn alt(a: &Term, b: &Term) -> Made {
     let mut members = Vec::new();
-    gather(a, &mut members);
-    gather(b, &mut members);
+    gather(Join::Alt, a, &mut members);
+    gather(Join::Alt, b, &mut members);
+    members.retain(|member| member.shape != Shape::Nothing);
+    nested(Join::Alt, members)
+}
+
+/// Both of two terms; a member that is Nothing makes the whole Nothing.
+pub fn and(a: &Term, b: &Term) -> Made {
+    let mut members = Vec::new();
+    gather(Join::And, a, &mut members);
+    gather(Join::And, b, &mut members);
+    if members.iter().any(|member| member.shape == Shape::Nothing) {
+        return nothing();
+    }
+    nested(Join::And, members)
+}
+
+/// The two shapes that have members.
+#[derive(Clone, Copy)]
+enum Join {
+    Alt,
+    And,
+}
+
+/// The members of a normal term: its own if it is joined that way, else itself.
+fn gather(join: Join, term: &Term, members: &mut Vec<Term>) {
+    match (join, &term.shape) {
+        (Join::Alt, Shape::Alt(a, b)) | (Join::And, Shape::And(a, b)) => {
+            gather(join, a, members);
+            gather(join, b, members);
+        }
+        _ => members.push(term.clone()),
+    }
+}
+
+/// Members sorted, equal ones kept once, nested to the right.
+fn nested(join: Join, mut members: Vec<Term>) -> Made {
     members.sort();
     members.dedup();
     let Some(mut whole) = members.pop() else {
         return nothing();
     };
     while let Some(member) = members.pop() {
-        whole = node(Shape::Alt(member, whole))?;
+        whole = node(match join {
+            Join::Alt => Shape::Alt(member, whole),
+            Join::And => Shape::And(member, whole),
+        })?;
     }
     Ok(whole)
 }
 
-/// The members of a choice that is normal, Nothing left out.
-fn gather(term: &Term, members: &mut Vec<Term>) {
-    match &term.shape {
-        Shape::Nothing => {}
-        Shape::Alt(a, b) => {
-            gather(a, members);
-            gather(b, members);
-        }
-        _ => members.push(term.clone()),
+/// All texts but those of a term.
+pub fn not(a: &Term) -> Made {
+    match &a.shape {
+        Shape::Not(inner) => Ok(inner.clone()),
+        _ => node(Shape::Not(a.clone())),
     }
 }
 
@@ -133,6 +171,8 @@ pub fn normal(expr: &Expr) -> Made {
         Expr::Cat(a, b) => cat(&normal(a)?, &normal(b)?),
         Expr::Alt(a, b) => alt(&normal(a)?, &normal(b)?),
         Expr::Star(a) => star(&normal(a)?),
+        Expr::And(a, b) => and(&normal(a)?, &normal(b)?),
+        Expr::Not(a) => not(&normal(a)?),
         Expr::Either(x) => {
             let capital = x.to_ascii_uppercase();
             alt(&range(*x, *x)?, &range(capital, capital)?)
@@ -140,7 +180,8 @@ pub fn normal(expr: &Expr) -> Made {
     }
 }
 
-/// What may follow the byte in the texts of the term.
+/// What may follow the byte in the texts of the term; every part's derivative that is
+/// worked out has to be short enough, also where the whole is Nothing without it.
 pub fn derivative(term: &Term, byte: u8) -> Made {
     match &term.shape {
         Shape::Nothing | Shape::Empty => nothing(),
@@ -148,6 +189,8 @@ pub fn derivative(term: &Term, byte: u8) -> Made {
         Shape::Range(..) => nothing(),
         Shape::Alt(a, b) => alt(&derivative(a, byte)?, &derivative(b, byte)?),
         Shape::Star(a) => cat(&derivative(a, byte)?, term),
+        Shape::And(a, b) => and(&derivative(a, byte)?, &derivative(b, byte)?),
+        Shape::Not(a) => not(&derivative(a, byte)?),
         Shape::Cat(a, b) => {
             let front = cat(&derivative(a, byte)?, b)?;
             if !a.empty {
@@ -165,11 +208,11 @@ pub fn collect(term: &Term, pool: &mut HashSet<Term>) {
         return;
     }
     match &term.shape {
-        Shape::Cat(a, b) | Shape::Alt(a, b) => {
+        Shape::Cat(a, b) | Shape::Alt(a, b) | Shape::And(a, b) => {
             collect(a, pool);
             collect(b, pool);
         }
-        Shape::Star(a) => collect(a, pool),
+        Shape::Star(a) | Shape::Not(a) => collect(a, pool),
         _ => {}
     }
 }
@@ -192,6 +235,15 @@ pub fn is_normal(term: &Term) -> bool {
             let lone = !matches!(a.shape, Shape::Nothing | Shape::Alt(..));
             lone && next.shape != Shape::Nothing && a < next && is_normal(a) && is_normal(b)
         }
+        Shape::And(a, b) => {
+            let next = match &b.shape {
+                Shape::And(x, _) => x,
+                _ => b,
+            };
+            let lone = !matches!(a.shape, Shape::Nothing | Shape::And(..));
+            lone && next.shape != Shape::Nothing && a < next && is_normal(a) && is_normal(b)
+        }
         Shape::Star(a) => !dull(a) && !matches!(a.shape, Shape::Star(_)) && is_normal(a),
+        Shape::Not(a) => !matches!(a.shape, Shape::Not(_)) && is_normal(a),
     }
 }

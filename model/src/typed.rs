@@ -3,7 +3,7 @@
 //! into lines, these into choices, rows, and atoms with their marks.
 
 use crate::book::{alt, cat, star, Book, Expr, Rule};
-use crate::limits::{KIND, NODES, RULES, TYPED_AREA};
+use crate::limits::{KIND, NODES, RULES, TYPED_AREA, VERSION};
 use crate::refusal::{refuse, Fault, Refusal};
 use crate::typed_sets::ranges;
 use crate::typed_wrong::wrong;
@@ -65,7 +65,7 @@ pub fn book(text: &[u8], area: usize) -> Result<Book, Refusal> {
             _ => return refuse(Fault::Range, start),
         }
     }
-    Ok(Book { rules })
+    Ok(Book { version: VERSION, rules })
 }
 
 /// The lines of a text that is not wrong.

@@ -5,7 +5,7 @@ use crate::book::{self, Book, Rule};
 use crate::brute::{all_texts, texts};
 use crate::build::build;
 use crate::cut::cut_on;
-use crate::limits::{KIND, NODES, TYPED_AREA};
+use crate::limits::{KIND, NODES, TYPED_AREA, VERSION};
 use crate::prng::Rng;
 use crate::programs;
 use crate::random::{joined_text, nearby_text};
@@ -93,7 +93,7 @@ fn unlimited(lines: &[Line]) -> Option<Book> {
     // Any kind that is too large stands for all of them.
     let kind = |line: &Line| line.kind.unwrap_or(KIND + 1);
     let rule = |line: &Line| Rule { kind: kind(line), expr: line.choice.expr() };
-    small.then(|| Book { rules: lines.iter().map(rule).collect() })
+    small.then(|| Book { version: VERSION, rules: lines.iter().map(rule).collect() })
 }
 
 /// A right text is refused at the first line with which the book reader refuses.

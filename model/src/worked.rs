@@ -2,11 +2,13 @@
 //! cases begins with: file sizes, odd files, books and meetings at the limits or of starts.
 
 use crate::book::{self, one, Book};
+use crate::both::{both_edges, both_meetings, other_edges};
 use crate::build::{alike, build, build_by};
 use crate::cases::{Case, File};
 use crate::edges::{all, meetings, Edge, Meeting};
 use crate::faults::{self, Faulty};
 use crate::limits::{Caps, BOOK_FILE, BYTES, CAPS, OLDER, TEXT_FILE};
+use crate::notes::{notes_cases, notes_meetings};
 use crate::padded::{padded_book_cases, padded_sheet_cases, twice_padded_cases};
 use crate::prng::Rng;
 use crate::raised_builds::raised_edges;
@@ -16,6 +18,7 @@ use crate::random::joined_text;
 use crate::sheet::{self, Table};
 use crate::sheets::{crowded, merged, random};
 use crate::starts::starts;
+use crate::versions::{more_version_cases, version_cases};
 
 /// The sample book, byte for byte.
 pub const SAMPLE: [u8; 36] = [
@@ -66,6 +69,13 @@ pub fn fixed(rng: &mut Rng) -> Vec<Case> {
         padded_book_cases(),
         padded_sheet_cases(),
         twice_padded_cases(),
+        version_cases(),
+        notes_cases(),
+        notes_meeting_cases(rng),
+        both_limit_cases(rng),
+        more_version_cases(),
+        other_limit_cases(rng),
+        both_meeting_cases(rng),
     ]
     .concat()
 }
@@ -107,6 +117,30 @@ pub fn raised_limit_cases(rng: &mut Rng) -> Vec<Case> {
 /// Comparisons that just meet or pass a raised cap.
 pub fn raised_meeting_cases(rng: &mut Rng) -> Vec<Case> {
     raised_meetings().iter().chain([&slowest()]).map(|meeting| met(rng, meeting)).collect()
+}
+
+/// Comparisons of notes.
+pub fn notes_meeting_cases(rng: &mut Rng) -> Vec<Case> {
+    notes_meetings().iter().map(|meeting| met(rng, meeting)).collect()
+}
+
+/// Books with And and Not that are stored, and the others.
+pub fn both_limit_cases(rng: &mut Rng) -> Vec<Case> {
+    let mut cases = built_cases(rng, both_edges(), CAPS);
+    // Rules that have no text, or none that is easily found, are tried on one too.
+    for case in cases.iter_mut().filter(|case| case.text.is_empty()) {
+        case.text = b"aab xa".to_vec();
+    }
+    cases
+}
+
+fn other_limit_cases(rng: &mut Rng) -> Vec<Case> {
+    built_cases(rng, other_edges(), CAPS)
+}
+
+/// Comparisons with And and Not.
+fn both_meeting_cases(rng: &mut Rng) -> Vec<Case> {
+    both_meetings().iter().map(|meeting| met(rng, meeting)).collect()
 }
 
 fn met(rng: &mut Rng, meeting: &Meeting) -> Case {

@@ -14,6 +14,7 @@ use Rattle.book.specs.Calls.{Size, checkOf, Told, kindOf}
 use Rattle.book.specs.Calls.Told.{kind, none}
 use Rattle.book.specs.Sample.{wBytes}
 use Rattle.book.specs.Seven.{sevenBytes}
+use Rattle.book.specs.Nine.{nineBytes}
 
 -- a call on a file, and what it answers
 pub data Call : Type 0 where
@@ -56,6 +57,11 @@ asked =
     rule sevenBytes 3 (gives (kind 0)) ∷
     rule sevenBytes 4 (gives (kind 16383)) ∷
     rule sevenBytes 5 (gives none) ∷
+    check nineBytes (gives (record { rules = 3; nodes = 33 })) ∷
+    rule nineBytes 0 (gives (kind 5)) ∷
+    rule nineBytes 1 (gives (kind 2)) ∷
+    rule nineBytes 2 (gives (kind 0)) ∷
+    rule nineBytes 3 (gives none) ∷
     check early (refuses (Short 35)) ∷
     rule early 0 (refuses (Short 35)) ∷
     rule early 4 (refuses (Short 35)) ∷
@@ -67,5 +73,5 @@ asked =
     []
 
 pub all-replied : map replied asked ≡ map expected asked
-unfolding wBytes sevenBytes total book moreRules moreNodes readNode readAfter readRange readEither allowed field within readNumber several due
+unfolding wBytes sevenBytes nineBytes total book moreRules moreNodes readNode readAfter readRange readEither allowed field within readNumber several due
 all-replied = refl

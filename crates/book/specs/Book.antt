@@ -1,14 +1,15 @@
 -- A rule book: its version, and its rules in order, each a kind and nodes in postfix order.
 -- Also how a book is written to bytes, and which codes of nodes a version has.
 use Prim.Native.Nat.{ℕ, _+_}
-use mathlib.Core.Bool.{Bool, false, _||_}
+use mathlib.Core.Bool.{Bool, false, cond, _||_}
 use mathlib.Core.List.{List, [], _∷_, _++_}
 use lib.Dec.{eqb}
 use lib.ListN.{length}
-use Rattle.number.specs.Limits.{codeNothing, codeEmpty, codeRange, codeCat, codeAlt, codeStar, codeEither}
+use Rattle.number.specs.Limits.{codeNothing, codeEmpty, codeRange, codeCat, codeAlt, codeStar, codeEither, codeAnd, codeNot}
+use Rattle.number.specs.Limits.{firstVersion}
 use Rattle.number.specs.Numbers.{writeNumber}
 use Rattle.book.specs.declared.Node.{Node}
-use Rattle.book.specs.declared.Node.the-variants.{Nothing, Empty, Range, Cat, Alt, Star, Either}
+use Rattle.book.specs.declared.Node.the-variants.{Nothing, Empty, Range, Cat, Alt, Star, Either, And, Not}
 
 pub record Rule : Type 0 where
   pub kind : ℕ
@@ -26,15 +27,23 @@ codeOf Cat = codeCat
 codeOf Alt = codeAlt
 codeOf Star = codeStar
 codeOf (Either x) = codeEither
+codeOf And = codeAnd
+codeOf Not = codeNot
 
 -- whether the number is in the list
 abbrev pub listed : List ℕ → ℕ → Bool
 listed [] n = false
 listed (m ∷ ms) n = eqb n m || listed ms n
 
--- the codes that books of version v have
+-- the codes that books of version 1 have
+abbrev pub firstCodes : List ℕ
+firstCodes = codeNothing ∷ codeEmpty ∷ codeRange ∷ codeCat ∷ codeAlt ∷ codeStar ∷ codeEither ∷ []
+
+-- the codes that books of version v have: of version 1 those, and of version 2 two more; there are no books of other versions
 abbrev pub codes : ℕ → List ℕ
-codes v = codeNothing ∷ codeEmpty ∷ codeRange ∷ codeCat ∷ codeAlt ∷ codeStar ∷ codeEither ∷ []
+codes v =
+    cond (eqb v firstVersion) firstCodes
+    (firstCodes ++ (codeAnd ∷ codeNot ∷ []))
 
 unfoldable pub allowed : ℕ → ℕ → Bool
 allowed v code = listed (codes v) code
@@ -48,6 +57,8 @@ takes Cat = 2
 takes Alt = 2
 takes Star = 1
 takes (Either x) = 0
+takes And = 2
+takes Not = 1
 
 -- nodes of all rules together
 unfoldable pub total : List Rule → ℕ
@@ -63,6 +74,8 @@ writeFields Cat = []
 writeFields Alt = []
 writeFields Star = []
 writeFields (Either x) = writeNumber x
+writeFields And = []
+writeFields Not = []
 
 unfoldable pub writeNode : Node → List ℕ
 writeNode n = writeNumber (codeOf n) ++ writeFields n

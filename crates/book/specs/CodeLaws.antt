@@ -3,13 +3,13 @@
 use Prim.Native.Nat.{ℕ, zero, suc, _+_, _-_, _<_, _≤_}
 use native.Mathlib.Omega.{arith}
 use mathlib.Core.Path.{_≡_, refl, sym, ap, _∙_}
-use mathlib.Core.Bool.{not}
+use mathlib.Core.Bool.{true, false, not}
 use mathlib.Core.List.{List, _∷_}
 use borrow.Author.Tests.{lt-ltb, le-ltb, eq-eqb, ne-eqb, ltb-false}
 use lib.Dec.{ltb, eqb}
 use lib.ListN.{length}
 use Rattle.number.specs.Limits.{firstVersion, lastVersion, rules, kinds, nodes, lastByte, firstLetter, lastLetter}
-use Rattle.number.specs.Limits.{codeNothing, codeEmpty, codeRange, codeCat, codeAlt, codeStar, codeEither}
+use Rattle.number.specs.Limits.{codeNothing, codeEmpty, codeRange, codeCat, codeAlt, codeStar, codeEither, codeAnd, codeNot}
 use Rattle.number.specs.declared.Refusal.{Refusal}
 use Rattle.number.specs.declared.Refusal.the-variants.{Range as OutOfRange, Stack, Tail}
 use Rattle.number.specs.Refused.{Answer}
@@ -18,7 +18,7 @@ use Rattle.number.specs.Refused.Outcome.{gives}
 use Rattle.number.specs.Numbers.{readNumber, field}
 use Rattle.number.specs.Reading.{onward, end, mapAnswer}
 use Rattle.book.specs.declared.Node.{Node}
-use Rattle.book.specs.declared.Node.the-variants.{Nothing, Empty, Range, Cat, Alt, Star, Either}
+use Rattle.book.specs.declared.Node.the-variants.{Nothing, Empty, Range, Cat, Alt, Star, Either, And, Not}
 use Rattle.book.specs.Book.{Rule, allowed, takes, total}
 use Rattle.book.specs.Reads.{readRange, readEither, readAfter, readNode, moreNodes, moreRules, book, readBook}
 use Rattle.book.specs.Calls.{sizeOf}
@@ -49,41 +49,66 @@ module _ (file : List ℕ) where
   unfolding readEither
   either-got at x after e = rw e
 
-  -- what stands after each code, and after a number that is none
+  -- what stands after a number that is no code of version v, and after each of its codes
   module _ (v start code at : ℕ) where
-    pub after-nothing : code ≡ codeNothing → readAfter file v start code at ≡ got Nothing at
-    unfolding readAfter allowed
-    after-nothing e = rw e
+    pub after-lacking : allowed v code ≡ false → readAfter file v start code at ≡ refused (OutOfRange start)
+    unfolding readAfter
+    after-lacking e = rw e
 
-    pub after-empty : code ≡ codeEmpty → readAfter file v start code at ≡ got Empty at
-    unfolding readAfter allowed
-    after-empty e = rw e
+    module _ (known : allowed v code ≡ true) where
+      pub after-nothing : code ≡ codeNothing → readAfter file v start code at ≡ got Nothing at
+      unfolding readAfter
+      after-nothing e = rw (known, e)
 
-    pub after-range : code ≡ codeRange → readAfter file v start code at ≡ readRange file at
-    unfolding readAfter allowed
-    after-range e = rw e
+      pub after-empty : code ≡ codeEmpty → readAfter file v start code at ≡ got Empty at
+      unfolding readAfter
+      after-empty e = rw (known, e)
 
-    pub after-cat : code ≡ codeCat → readAfter file v start code at ≡ got Cat at
-    unfolding readAfter allowed
-    after-cat e = rw e
+      pub after-range : code ≡ codeRange → readAfter file v start code at ≡ readRange file at
+      unfolding readAfter
+      after-range e = rw (known, e)
 
-    pub after-alt : code ≡ codeAlt → readAfter file v start code at ≡ got Alt at
-    unfolding readAfter allowed
-    after-alt e = rw e
+      pub after-cat : code ≡ codeCat → readAfter file v start code at ≡ got Cat at
+      unfolding readAfter
+      after-cat e = rw (known, e)
 
-    pub after-star : code ≡ codeStar → readAfter file v start code at ≡ got Star at
-    unfolding readAfter allowed
-    after-star e = rw e
+      pub after-alt : code ≡ codeAlt → readAfter file v start code at ≡ got Alt at
+      unfolding readAfter
+      after-alt e = rw (known, e)
 
-    pub after-either : code ≡ codeEither → readAfter file v start code at ≡ readEither file at
-    unfolding readAfter allowed
-    after-either e = rw e
+      pub after-star : code ≡ codeStar → readAfter file v start code at ≡ got Star at
+      unfolding readAfter
+      after-star e = rw (known, e)
 
-    pub after-none : (code ≡ codeNothing → ⊥) → (code ≡ codeEmpty → ⊥) → (code ≡ codeRange → ⊥) → (code ≡ codeCat → ⊥)
-        → (code ≡ codeAlt → ⊥) → (code ≡ codeStar → ⊥) → (code ≡ codeEither → ⊥) → readAfter file v start code at ≡ refused (OutOfRange start)
-    unfolding readAfter allowed
-    after-none a b c d e f g =
-        rw (ne-eqb code _ a, ne-eqb code _ b, ne-eqb code _ c, ne-eqb code _ d, ne-eqb code _ e, ne-eqb code _ f, ne-eqb code _ g)
+      pub after-either : code ≡ codeEither → readAfter file v start code at ≡ readEither file at
+      unfolding readAfter
+      after-either e = rw (known, e)
+
+      pub after-and : code ≡ codeAnd → readAfter file v start code at ≡ got And at
+      unfolding readAfter
+      after-and e = rw (known, e)
+
+      pub after-not : code ≡ codeNot → readAfter file v start code at ≡ got Not at
+      unfolding readAfter
+      after-not e = rw (known, e)
+
+      pub after-none : (code ≡ codeNothing → ⊥) → (code ≡ codeEmpty → ⊥) → (code ≡ codeRange → ⊥) → (code ≡ codeCat → ⊥)
+          → (code ≡ codeAlt → ⊥) → (code ≡ codeStar → ⊥) → (code ≡ codeEither → ⊥) → (code ≡ codeAnd → ⊥) → (code ≡ codeNot → ⊥)
+          → readAfter file v start code at ≡ refused (OutOfRange start)
+      unfolding readAfter
+      after-none a b c d e f g h i =
+          rw (
+            known,
+            ne-eqb code _ a,
+            ne-eqb code _ b,
+            ne-eqb code _ c,
+            ne-eqb code _ d,
+            ne-eqb code _ e,
+            ne-eqb code _ f,
+            ne-eqb code _ g,
+            ne-eqb code _ h,
+            ne-eqb code _ i,
+          )
 
   pub node-refused : (v at : ℕ) (r : Refusal) → readNumber file at ≡ refused r → readNode file v at ≡ refused r
   unfolding readNode

@@ -1,11 +1,11 @@
 -- The expression of a rule: its nodes in postfix order, worked off with a stack of expressions.
--- Cat and Alt take two terms, the later one being b; Either is the Alt of its two one-byte ranges.
+-- Cat, Alt and And take two terms, the later one being b; Either is the Alt of its two one-byte ranges.
 use Prim.Native.Nat.{_-_}
 use mathlib.Core.List.{List, [], _∷_, map}
 use Rattle.number.specs.Limits.{capital}
 use Rattle.meaning.specs.Re.{Re}
 use Rattle.book.specs.declared.Node.{Node}
-use Rattle.book.specs.declared.Node.the-variants.{Nothing, Empty, Range, Cat, Alt, Star, Either}
+use Rattle.book.specs.declared.Node.the-variants.{Nothing, Empty, Range, Cat, Alt, Star, Either, And, Not}
 use Rattle.book.specs.Book.{Rule, Book}
 
 -- an operator of one term, of two; where the stack is too short it stays as it is, which no valid rule meets
@@ -26,6 +26,8 @@ stacked Cat stack = two Re.Cat stack
 stacked Alt stack = two Re.Alt stack
 stacked Star stack = one Re.Star stack
 stacked (Either x) stack = Re.Alt (Re.Range (x - capital) (x - capital)) (Re.Range x x) ∷ stack
+stacked And stack = two Re.And stack
+stacked Not stack = one Re.Not stack
 
 unfoldable pub runNodes : List Node → List Re → List Re
 runNodes [] stack = stack

@@ -7,7 +7,7 @@ use mathlib.Core.List.{List, [], _∷_}
 use lib.ListN.{length}
 use Rattle.meaning.specs.Re.{Re, size, sizes}
 use Rattle.book.specs.declared.Node.{Node}
-use Rattle.book.specs.declared.Node.the-variants.{Nothing, Empty, Range, Cat, Alt, Star, Either}
+use Rattle.book.specs.declared.Node.the-variants.{Nothing, Empty, Range, Cat, Alt, Star, Either, And, Not}
 use Rattle.book.specs.Book.{Rule, takes}
 use Rattle.book.specs.Valid.{Leaves, ValidRule}
 use Rattle.book.specs.Expression.{one, two, stacked, runNodes, top, expression}
@@ -32,6 +32,8 @@ stacked-length Cat stack h = two-length Re.Cat stack h
 stacked-length Alt stack h = two-length Re.Alt stack h
 stacked-length Star stack h = omega (arith, one-length Re.Star stack h)
 stacked-length (Either x) stack h = omega arith
+stacked-length And stack h = two-length Re.And stack h
+stacked-length Not stack h = omega (arith, one-length Re.Not stack h)
 
 run-length : (v : ℕ) (ns : List Node) (stack : List Re) (terms : ℕ) → Leaves v terms ns → length stack ≡ terms → length (runNodes ns stack) ≡ 1
 unfolding runNodes
@@ -51,10 +53,11 @@ run-whole v r h = top-alone (runNodes (r .nodes) []) (run-length v (r .nodes) []
 
 -- ---- its size
 
-one-sizes : (stack : List Re) → sizes (one Re.Star stack) + length stack ≤ sizes stack + 2 + length (one Re.Star stack)
-unfolding sizes size
-one-sizes [] = omega arith
-one-sizes (a ∷ stack) = omega arith
+one-sizes : (f : Re → Re) → ((a : Re) → size (f a) ≡ size a + 1) → (stack : List Re)
+    → sizes (one f stack) + length stack ≤ sizes stack + 2 + length (one f stack)
+unfolding sizes
+one-sizes f e [] = omega arith
+one-sizes f e (a ∷ stack) = omega (arith, e a)
 
 two-sizes : (f : Re → Re → Re) → ((a b : Re) → size (f a b) ≡ size a + size b + 1) → (stack : List Re)
     → sizes (two f stack) + length stack ≤ sizes stack + 2 + length (two f stack)
@@ -71,8 +74,10 @@ stacked-sizes Empty stack = omega arith
 stacked-sizes (Range lo hi) stack = omega arith
 stacked-sizes Cat stack = two-sizes Re.Cat (λ a b. omega arith) stack
 stacked-sizes Alt stack = two-sizes Re.Alt (λ a b. omega arith) stack
-stacked-sizes Star stack = one-sizes stack
+stacked-sizes Star stack = one-sizes Re.Star (λ a. omega arith) stack
 stacked-sizes (Either x) stack = omega arith
+stacked-sizes And stack = two-sizes Re.And (λ a b. omega arith) stack
+stacked-sizes Not stack = one-sizes Re.Not (λ a. omega arith) stack
 
 run-sizes : (ns : List Node) (stack : List Re)
     → sizes (runNodes ns stack) + length stack ≤ sizes stack + 2 * length ns + length (runNodes ns stack)

@@ -11,7 +11,7 @@ use lib.ListN.{length, getD, drop, length-append}
 use Rattle.number.specs.declared.Refusal.{Refusal}
 use Rattle.number.specs.declared.Refusal.the-variants.{Range as OutOfRange, Stack, Tail}
 use Rattle.number.specs.Limits.{firstVersion, lastVersion, rules, kinds, nodes, lastByte, firstLetter, lastLetter}
-use Rattle.number.specs.Limits.{codeNothing, codeEmpty, codeRange, codeCat, codeAlt, codeStar, codeEither}
+use Rattle.number.specs.Limits.{codeNothing, codeEmpty, codeRange, codeCat, codeAlt, codeStar, codeEither, codeAnd, codeNot}
 use Rattle.number.specs.Refused.{Answer}
 use Rattle.number.specs.Refused.Answer.{got, refused}
 use Rattle.number.specs.Numbers.{Bytes, readNumber, field, writeNumber, NumberAt}
@@ -22,7 +22,7 @@ use Rattle.number.specs.NumberLaws.{written-read, field-read}
 use Rattle.number.specs.FaultLaws.{refused-fault, refused-field}
 use Rattle.meaning.specs.Tests.{clash as untrue}
 use Rattle.book.specs.declared.Node.{Node}
-use Rattle.book.specs.Book.{Rule, Book, allowed, takes, total, writeNode, writeNodes, writeRule, writeRules, writeBook}
+use Rattle.book.specs.Book.{Rule, Book, listed, allowed, takes, total, writeNode, writeNodes, writeRule, writeRules, writeBook}
 use Rattle.book.specs.Reads.{readRange, readEither, readAfter, readNode, moreNodes, moreRules, book, readBook}
 use Rattle.book.specs.Valid.{Allowed, Within, ValidRule, AllValid, Known}
 use Rattle.book.specs.ReadLawsSteps.{clash, not-true, not-false, ByAnswer, Stands, stands-none, stands-more}
@@ -111,9 +111,13 @@ module _ (file : List ℕ) (all : Bytes file) where
 
   -- a number that is no code is none that the version has
   no-other : (v c : ℕ) → Allowed v c → eqb c codeNothing ≡ false → eqb c codeEmpty ≡ false → eqb c codeRange ≡ false → eqb c codeCat ≡ false
-      → eqb c codeAlt ≡ false → eqb c codeStar ≡ false → eqb c codeEither ≡ false → ⊥
+      → eqb c codeAlt ≡ false → eqb c codeStar ≡ false → eqb c codeEither ≡ false → eqb c codeAnd ≡ false → eqb c codeNot ≡ false → ⊥
   unfolding allowed
-  no-other v c known e0 e1 e2 e3 e4 e5 e6 = untrue known (rw (e0, e1, e2, e3, e4, e5, e6) refl)
+  no-other v c known e0 e1 e2 e3 e4 e5 e6 e7 e8 =
+      untrue known
+      (by-cond (λ (cs : List ℕ). listed cs c ≡ false) (eqb v firstVersion)
+      (λ _. rw (e0, e1, e2, e3, e4, e5, e6) refl)
+      (λ _. rw (e0, e1, e2, e3, e4, e5, e6, e7, e8) refl))
 
   module _ (v c at next : ℕ) (s : Stands file at (writeNumber c) next) (stop-at : StopsAt v at) (stop : Stops v at) where
     code-is : (k : ℕ) → Allowed v c → eqb c k ≡ true → Allowed v k × Stands file at (writeNumber k) next
@@ -152,7 +156,9 @@ module _ (file : List ℕ) (all : Bytes file) where
         by-cond Tells (eqb c codeAlt) (λ t. tt) λ e4.
         by-cond Tells (eqb c codeStar) (λ t. tt) λ e5.
         by-cond Tells (eqb c codeEither) (λ t. let (fits, stood) = code-is codeEither known t in either-faults fits stood) λ e6.
-        absurd (no-other v c known e0 e1 e2 e3 e4 e5 e6)
+        by-cond Tells (eqb c codeAnd) (λ t. tt) λ e7.
+        by-cond Tells (eqb c codeNot) (λ t. tt) λ e8.
+        absurd (no-other v c known e0 e1 e2 e3 e4 e5 e6 e7 e8)
 
   node-faults : (v at : ℕ) → StopsAt v at → Stops v at → Faults (Faulty file) (readNode file v at)
   unfolding readNode

@@ -1,4 +1,4 @@
--- Rule books. Definitions, in reading order: Book, Reads, Valid, Expression, Places, Calls, Promises, Sample, Seven, Refusals, Asked, Faults, Postfix, Answers; the other files prove things of these.
+-- Rule books. Definitions, in reading order: Book, Reads, Valid, Expression, Places, Calls, Promises, Sample, Seven, Nine, Refusals, Asked, Faults, Postfix, Answers; the other files prove things of these.
 -- Main gathers the theorems that are bought.
 pub mod Book
 pub mod Reads
@@ -9,6 +9,7 @@ pub mod Calls
 pub mod Promises
 pub mod Sample
 pub mod Seven
+pub mod Nine
 pub mod Refusals
 pub mod Asked
 pub mod Faults
@@ -20,6 +21,7 @@ pub mod ReadLawsRead
 pub mod ReadLaws
 pub mod ReadLawsPlaces
 pub mod AnswerLaws
+pub mod VersionLaws
 pub mod CodeLaws
 pub mod PlaceLaws
 pub mod ExpressionLaws

@@ -1,7 +1,7 @@
 -- The theorems of this layer that are bought, together; each is proved in the file that its proof names.
 -- To believe them, read only the definitions: Book to Postfix in the order of Lib, and those of number and meaning that they name.
 use Prim.Native.Nat.{ℕ, _+_, _*_, _≤_, _<_}
-use mathlib.Core.Path.{_≡_}
+use mathlib.Core.Path.{_≡_, refl}
 use mathlib.Core.List.{List, [], _∷_, _++_, map, flatten}
 use mathlib.Core.Logic.{_↔_, _⊎_}
 use lib.ListN.{length, drop}
@@ -14,19 +14,21 @@ use Rattle.meaning.specs.Re.{Re, Text, size}
 use Rattle.meaning.specs.Means.{Matches}
 use Rattle.meaning.specs.Sample.{W}
 use Rattle.book.specs.declared.Node.{Node}
-use Rattle.book.specs.declared.Node.the-variants.{Either}
+use Rattle.book.specs.declared.Node.the-variants.{Either, And, Not}
 use Rattle.book.specs.declared.Checked.{Checked}
 use Rattle.book.specs.declared.Checked.the-variants.{Counts, Refused}
 use Rattle.book.specs.declared.RuleKind.{RuleKind}
 use Rattle.book.specs.declared.RuleKind.the-variants.{Kind, NoRule, Unknown}
 use Rattle.book.specs.Book.{Rule, Book, writeNode, writeNodes, writeRules, writeBook}
 use Rattle.book.specs.Reads.{readNode, readBook}
-use Rattle.book.specs.Valid.{Within, ValidRule, ValidBook}
+use Rattle.book.specs.Valid.{CodesUpTo, Within, ValidRule, ValidBook}
 use Rattle.book.specs.Expression.{runNodes, top, expression, meant}
 use Rattle.book.specs.Sample.{wBytes, wBook, w-length, w-reads, w-writes, w-means}
+use Rattle.book.specs.Sample.{wSecondBytes, wSecondBook, w-second-length, w-second-reads, w-second-writes, w-second-means}
 use Rattle.book.specs.Places.{ruleOf, nodesAt}
 use Rattle.book.specs.Calls.{checked, checkOf, kindTold, kindOf}
 use Rattle.book.specs.Seven.{sevenBytes, sevenBook, sevenRules, seven-length, seven-reads, seven-writes, seven-means}
+use Rattle.book.specs.Nine.{nineBytes, nineBook, nineRules, nine-length, nine-reads, nine-writes, nine-means}
 use Rattle.book.specs.Refusals.{told, stated, lines, lines-told}
 use Rattle.book.specs.Asked.{replied, expected, asked, all-replied}
 use Rattle.book.specs.Faults.{Faulty}
@@ -35,7 +37,8 @@ use Rattle.book.specs.ReadLawsWritten.{node-written}
 use Rattle.book.specs.ReadLaws.{book-written, book-read, book-exact, book-one, book-valid, book-none, book-refused}
 use Rattle.book.specs.ReadLawsPlaces.{rule-in}
 use Rattle.book.specs.ExpressionLaws.{run-whole, expression-size}
-use Rattle.book.specs.PostfixLaws.{postfix-run, postfix-size, book-for, either-means}
+use Rattle.book.specs.PostfixLaws.{postfix-run, postfix-size, book-for, either-means, and-means, not-means}
+use Rattle.book.specs.VersionLaws.{codes-first, codes-second, node-allowed, first-neither, book-second}
 use Rattle.book.specs.FaultLaws.{faulty-exact}
 use Rattle.book.specs.CallLaws.{check-read, kind-read, kind-past, check-refused, kind-refused, check-row, kind-row}
 
@@ -93,7 +96,18 @@ pub the-sample-book : SampleBook 36 wBytes wBook W
 the-sample-book =
     record { long = w-length; reads = w-reads; writes = w-writes; valid = book-valid wBytes wBook 36 w-reads .0; means = w-means }
 
--- a second one, with all seven nodes and with numbers of two groups
+-- and the same rules in a book of version 2
+pub the-later-sample-book : SampleBook 36 wSecondBytes wSecondBook W
+the-later-sample-book =
+    record {
+      long = w-second-length;
+      reads = w-second-reads;
+      writes = w-second-writes;
+      valid = book-valid wSecondBytes wSecondBook 36 w-second-reads .0;
+      means = w-second-means;
+    }
+
+-- a second one, with all seven nodes of version 1 and with numbers of two groups
 pub the-second-book : SampleBook 55 sevenBytes sevenBook sevenRules
 the-second-book =
     record {
@@ -102,6 +116,17 @@ the-second-book =
       writes = seven-writes;
       valid = book-valid sevenBytes sevenBook 55 seven-reads .0;
       means = seven-means;
+    }
+
+-- a third one, of version 2, with all nine nodes
+pub the-third-book : SampleBook 68 nineBytes nineBook nineRules
+the-third-book =
+    record {
+      long = nine-length;
+      reads = nine-reads;
+      writes = nine-writes;
+      valid = book-valid nineBytes nineBook 68 nine-reads .0;
+      means = nine-means;
     }
 
 -- an expression's postfix, a node for each of its tree's, leaves that expression on top of whatever stands there
@@ -117,6 +142,29 @@ the-expressions = book-for
 pub the-either : (x y : ℕ) (stack : List Re) (w : Text) → x ≡ y + 32
     → ((w ≡ x ∷ []) ⊎ (w ≡ y ∷ [])) ↔ Matches (top (runNodes (Either x ∷ []) stack)) w
 the-either = either-means
+
+-- an And matches what both its terms match, and a Not what its term does not
+pub the-and : (a b : Re) (stack : List Re) (w : Text) → (Matches a w × Matches b w) ↔ Matches (top (runNodes (And ∷ []) (b ∷ a ∷ stack))) w
+the-and = and-means
+
+pub the-not : (a : Re) (stack : List Re) (w : Text) → (Matches a w → ⊥) ↔ Matches (top (runNodes (Not ∷ []) (a ∷ stack))) w
+the-not = not-means
+
+-- version 1 has the codes up to 6, version 2 those up to 8, and neither has any other
+pub the-codes : CodesUpTo 1 6 × CodesUpTo 2 8
+the-codes = (codes-first, codes-second)
+
+-- so no node of a book of version 1 that is read is an And or a Not
+pub the-first-version : (file : List ℕ) (b : Book) (after : ℕ) → readBook file ≡ got b after → b .version ≡ 1
+    → (before behind : List Rule) (q : Rule) → b .rules ≡ before ++ (q ∷ behind)
+    → (front back : List Node) (n : Node) → q .nodes ≡ front ++ (n ∷ back) → (n ≡ And → ⊥) × (n ≡ Not → ⊥)
+the-first-version file b after e one before behind q f front back n g =
+    first-neither (b .version) n one (node-allowed b (book-valid file b after e .0) before behind q f front back n g)
+
+-- and any book that is valid is so too as one of version 2, with the same rules, which mean the same
+pub the-second-version : (b : Book) → ValidBook b
+    → ValidBook (record { version = 2; rules = b .rules }) × (meant (record { version = 2; rules = b .rules }) ≡ meant b)
+the-second-version b h = (book-second b h, refl)
 
 -- which refusal, and where, for every file: it is refused by r exactly where it is faulty so, told by what stands in it before the fault
 pub the-faults : (file : List ℕ) (r : Refusal) → Bytes file → (readBook file ≡ refused r) ↔ Faulty file r

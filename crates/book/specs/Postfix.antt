@@ -6,7 +6,7 @@ use mathlib.Core.List.{List, [], _∷_, _++_}
 use Rattle.number.specs.Limits.{lastByte}
 use Rattle.meaning.specs.Re.{Re}
 use Rattle.book.specs.declared.Node.{Node}
-use Rattle.book.specs.declared.Node.the-variants.{Nothing, Empty, Range, Cat, Alt, Star}
+use Rattle.book.specs.declared.Node.the-variants.{Nothing, Empty, Range, Cat, Alt, Star, And, Not}
 use Rattle.book.specs.Book.{Book}
 use Rattle.book.specs.Valid.{ValidBook}
 use Rattle.book.specs.Expression.{meant}
@@ -18,6 +18,8 @@ postfix (Re.Range lo hi) = Range lo hi ∷ []
 postfix (Re.Cat a b) = postfix a ++ (postfix b ++ (Cat ∷ []))
 postfix (Re.Alt a b) = postfix a ++ (postfix b ++ (Alt ∷ []))
 postfix (Re.Star a) = postfix a ++ (Star ∷ [])
+postfix (Re.And a b) = postfix a ++ (postfix b ++ (And ∷ []))
+postfix (Re.Not a) = postfix a ++ (Not ∷ [])
 
 -- its ranges are of bytes, none of them with hi below lo
 abbrev pub OfBytes : Re → Type 0
@@ -27,6 +29,8 @@ OfBytes (Re.Range lo hi) = (lo ≤ hi) × (hi ≤ lastByte)
 OfBytes (Re.Cat a b) = OfBytes a × OfBytes b
 OfBytes (Re.Alt a b) = OfBytes a × OfBytes b
 OfBytes (Re.Star a) = OfBytes a
+OfBytes (Re.And a b) = OfBytes a × OfBytes b
+OfBytes (Re.Not a) = OfBytes a
 
 abbrev pub AllOfBytes : List Re → Type 0
 AllOfBytes [] = Unit

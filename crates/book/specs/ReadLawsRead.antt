@@ -11,12 +11,12 @@ use lib.Dec.{ltb, eqb}
 use lib.ListN.{length}
 use Rattle.number.specs.declared.Refusal.the-variants.{Range as OutOfRange, Stack, Tail}
 use Rattle.number.specs.Limits.{firstVersion, lastVersion, rules, kinds, nodes, lastByte, firstLetter, lastLetter}
-use Rattle.number.specs.Limits.{codeNothing, codeEmpty, codeRange, codeCat, codeAlt, codeStar, codeEither}
+use Rattle.number.specs.Limits.{codeNothing, codeEmpty, codeRange, codeCat, codeAlt, codeStar, codeEither, codeAnd, codeNot}
 use Rattle.number.specs.Numbers.{writeNumber}
 use Rattle.number.specs.Reading.{Reader, answer}
 use Rattle.number.specs.Branch.{by-cond}
 use Rattle.book.specs.declared.Node.{Node}
-use Rattle.book.specs.declared.Node.the-variants.{Nothing, Empty, Range, Cat, Alt, Star, Either}
+use Rattle.book.specs.declared.Node.the-variants.{Nothing, Empty, Range, Cat, Alt, Star, Either, And, Not}
 use Rattle.book.specs.Book.{Rule, Book, codeOf, allowed, takes, total, writeFields, writeNode, writeNodes, writeRule, writeRules, writeBook}
 use Rattle.book.specs.Reads.{readRange, readEither, readAfter, readNode, moreNodes, moreRules, book, readBook}
 use Rattle.book.specs.Valid.{Allowed, InFields, Within, Leaves, AllValid, ValidBook}
@@ -80,7 +80,9 @@ module _ (file : List ℕ) where
         by-cond Holds (eqb code codeStar) (λ t. node-is Star at known t tt no-fields) λ _.
         by-cond Holds (eqb code codeEither)
         (λ t. on-field (ReadsNode file v start) file firstLetter lastLetter at _ (s .inside) λ x next f. node-is (Either x) next known t (f .low, f .high) (f .read))
-        λ _. refused-here
+        λ _.
+        by-cond Holds (eqb code codeAnd) (λ t. node-is And at known t tt no-fields) λ _.
+        by-cond Holds (eqb code codeNot) (λ t. node-is Not at known t tt no-fields) λ _. refused-here
 
   pub node-holds : (v at : ℕ) → at ≤ length file → ByAnswer (ReadsNode file v at) (Fault file) (readNode file v at)
   unfolding readNode

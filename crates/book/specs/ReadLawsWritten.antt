@@ -11,7 +11,7 @@ use Rattle.number.specs.Refused.Answer.{got}
 use Rattle.number.specs.Numbers.{writeNumber}
 use Rattle.number.specs.NumberLaws.{read-written, field-written}
 use Rattle.book.specs.declared.Node.{Node}
-use Rattle.book.specs.declared.Node.the-variants.{Nothing, Empty, Range, Cat, Alt, Star, Either}
+use Rattle.book.specs.declared.Node.the-variants.{Nothing, Empty, Range, Cat, Alt, Star, Either, And, Not}
 use Rattle.book.specs.Book.{Rule, codeOf, takes, total, writeFields, writeNode, writeNodes, writeRule, writeRules}
 use Rattle.book.specs.Reads.{readRange, readEither, readAfter, readNode, moreNodes, moreRules}
 use Rattle.book.specs.Valid.{Within, Leaves, AllValid}
@@ -36,6 +36,8 @@ fields-written file v Cat start at t w e = rw (w .0) (ap (got Cat) (omega arith)
 fields-written file v Alt start at t w e = rw (w .0) (ap (got Alt) (omega arith))
 fields-written file v Star start at t w e = rw (w .0) (ap (got Star) (omega arith))
 fields-written file v (Either x) start at t w e = rw (w .0, field-written x file firstLetter lastLetter at t (omega arith) (w .1 .0) (w .1 .1) e)
+fields-written file v And start at t w e = rw (w .0) (ap (got And) (omega arith))
+fields-written file v Not start at t w e = rw (w .0) (ap (got Not) (omega arith))
 
 -- a code is one byte
 pub code-small : (n : Node) → codeOf n < group
@@ -46,6 +48,8 @@ code-small Cat = omega arith
 code-small Alt = omega arith
 code-small Star = omega arith
 code-small (Either x) = omega arith
+code-small And = omega arith
+code-small Not = omega arith
 
 pub node-written : (file : List ℕ) (v : ℕ) (n : Node) (at : ℕ) (t : List ℕ) → Within v n → drop at file ≡ writeNode n ++ t
     → readNode file v at ≡ got n (at + length (writeNode n))

@@ -6,13 +6,13 @@ use mathlib.Core.List.{List, [], _∷_}
 use lib.Dec.{ltb, eqb}
 use Rattle.number.specs.declared.Refusal.the-variants.{Range as OutOfRange, Stack}
 use Rattle.number.specs.Limits.{firstVersion, lastVersion, rules, kinds, nodes, lastByte, firstLetter, lastLetter}
-use Rattle.number.specs.Limits.{codeNothing, codeEmpty, codeRange, codeCat, codeAlt, codeStar, codeEither}
+use Rattle.number.specs.Limits.{codeNothing, codeEmpty, codeRange, codeCat, codeAlt, codeStar, codeEither, codeAnd, codeNot}
 use Rattle.number.specs.Refused.{Answer}
 use Rattle.number.specs.Refused.Answer.{refused}
 use Rattle.number.specs.Numbers.{readNumber, field}
 use Rattle.number.specs.Reading.{Reader, _>>=_, _>>_, answer, here, refuseIf, end}
 use Rattle.book.specs.declared.Node.{Node}
-use Rattle.book.specs.declared.Node.the-variants.{Nothing, Empty, Range, Cat, Alt, Star, Either}
+use Rattle.book.specs.declared.Node.the-variants.{Nothing, Empty, Range, Cat, Alt, Star, Either, And, Not}
 use Rattle.book.specs.Book.{Rule, Book, allowed, takes}
 
 module _ (file : List ℕ) where
@@ -45,7 +45,9 @@ module _ (file : List ℕ) where
       (cond (eqb code codeAlt) (answer Alt)
       (cond (eqb code codeStar) (answer Star)
       (cond (eqb code codeEither) readEither
-      (noCode atCode))))))))
+      (cond (eqb code codeAnd) (answer And)
+      (cond (eqb code codeNot) (answer Not)
+      (noCode atCode))))))))))
 
   -- a node of a book of version v
   unfoldable pub readNode : ℕ → Reader Node

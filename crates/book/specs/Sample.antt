@@ -1,9 +1,9 @@
--- The sample book W: its 36 bytes, what they read as, and that its rules are the row that the worked lines are about.
+-- The sample book W: its 36 bytes, what they read as, and that its rules are the row that the worked lines are about; the same as a book of version 2.
 -- The checker computes each equation.
 use Prim.Native.Nat.{ℕ}
 use mathlib.Core.Path.{_≡_, refl}
 use mathlib.Core.List.{List, [], _∷_}
-use lib.ListN.{length}
+use lib.ListN.{length, drop}
 use Rattle.number.specs.Numbers.{due, several, readNumber, within, field, writeNumber}
 use Rattle.number.specs.Refused.Answer.{got}
 use Rattle.meaning.specs.Sample.{W}
@@ -51,3 +51,26 @@ w-writes = refl
 pub w-means : meant wBook ≡ W
 unfolding wBook runNodes stacked
 w-means = refl
+
+-- the same rules in a book of version 2
+unfoldable pub wSecondBytes : List ℕ
+wSecondBytes = 0x02 ∷ drop 1 wBytes
+
+unfoldable pub wSecondBook : Book
+wSecondBook = record { version = 2; rules = wBook .rules }
+
+pub w-second-length : length wSecondBytes ≡ 36
+unfolding wSecondBytes wBytes
+w-second-length = refl
+
+pub w-second-reads : readBook wSecondBytes ≡ got wSecondBook 36
+unfolding wSecondBytes wBytes wSecondBook wBook book moreRules moreNodes readNode readAfter readRange allowed field within readNumber several due
+w-second-reads = refl
+
+pub w-second-writes : writeBook wSecondBook ≡ wSecondBytes
+unfolding wSecondBytes wBytes wSecondBook wBook writeBook writeRules writeRule writeNodes writeNode writeNumber
+w-second-writes = refl
+
+pub w-second-means : meant wSecondBook ≡ W
+unfolding wSecondBook wBook runNodes stacked
+w-second-means = refl

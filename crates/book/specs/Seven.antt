@@ -1,4 +1,4 @@
--- A second sample book, with all seven nodes, bounds above 127, operands in an order that shows, kinds of two groups and a kind that two rules share.
+-- A second sample book, with all seven nodes of version 1, bounds above 127, operands in an order that shows, kinds of two groups and a kind that two rules share.
 -- Its bytes, what they read as and what its rules mean; the checker computes each equation.
 use Prim.Native.Nat.{ℕ}
 use mathlib.Core.Path.{_≡_, refl}

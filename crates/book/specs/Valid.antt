@@ -1,18 +1,24 @@
 -- Which books are valid: every field within its bounds, and each rule's nodes leave exactly one term.
 -- ReadLaws proves that exactly these are read, from exactly the bytes that would be written.
-use Prim.Native.Nat.{ℕ, _+_, _-_, _≤_}
+use Prim.Native.Nat.{ℕ, _+_, _-_, _≤_, _<_}
 use mathlib.Core.Path.{_≡_}
-use mathlib.Core.Bool.{true}
+use mathlib.Core.Bool.{true, false}
+use mathlib.Core.Logic.{_↔_}
 use mathlib.Core.List.{List, [], _∷_}
 use lib.ListN.{length}
 use Rattle.number.specs.Limits.{firstVersion, lastVersion, rules, kinds, nodes, lastByte, firstLetter, lastLetter}
 use Rattle.book.specs.declared.Node.{Node}
-use Rattle.book.specs.declared.Node.the-variants.{Nothing, Empty, Range, Cat, Alt, Star, Either}
+use Rattle.book.specs.declared.Node.the-variants.{Nothing, Empty, Range, Cat, Alt, Star, Either, And, Not}
 use Rattle.book.specs.Book.{Rule, Book, codeOf, allowed, takes, total}
 
 -- books of version v have that code
 abbrev pub Allowed : ℕ → ℕ → Type 0
 Allowed v code = allowed v code ≡ true
+
+-- and these are the codes up to the last, and no other
+pub record CodesUpTo (v last : ℕ) : Type 0 where
+  pub has : (c : ℕ) → Allowed v c ↔ (c ≤ last)
+  pub lacks : (c : ℕ) → (allowed v c ≡ false) ↔ (last < c)
 
 -- the numbers that a node carries are within their fields
 abbrev pub InFields : Node → Type 0
@@ -23,6 +29,8 @@ InFields Cat = Unit
 InFields Alt = Unit
 InFields Star = Unit
 InFields (Either x) = (firstLetter ≤ x) × (x ≤ lastLetter)
+InFields And = Unit
+InFields Not = Unit
 
 -- a book of version v may have that node
 abbrev pub Within : ℕ → Node → Type 0

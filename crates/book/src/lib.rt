@@ -1,25 +1,28 @@
 // Rule books: the types that calls on books answer with, and the nodes of a rule read one by one.
 // Readers take any bytes and promise the paper's answer for each; books are checked in the crate checking, their rules found in places.
 ghost use mathlib.Core.Path.{_≡_};
-ghost use Rattle.book.specs.Book.{takes as takesOf};
+ghost use Rattle.book.specs.Book.{allowed as allowedOf, takes as takesOf};
 ghost use Rattle.book.specs.Reads.{readRange, readEither, readAfter, readNode};
 ghost use Rattle.book.specs.Answers.{nodeRead, refusalOf};
 use number::Refusal;
 use number::Taken;
 use number::limits::CODE_ALT;
+use number::limits::CODE_AND;
 use number::limits::CODE_CAT;
 use number::limits::CODE_EITHER;
 use number::limits::CODE_EMPTY;
+use number::limits::CODE_NOT;
 use number::limits::CODE_NOTHING;
 use number::limits::CODE_RANGE;
 use number::limits::CODE_STAR;
 use number::limits::FIRST_LETTER;
+use number::limits::FIRST_VERSION;
 use number::limits::LAST_BYTE;
 use number::limits::LAST_LETTER;
 use number::read_field;
 use number::read_number;
 
-// A node of a rule, in postfix order: one of seven kinds.
+// A node of a rule, in postfix order: one of nine kinds, of which books of version 1 have all but And and Not.
 pub enum Node {
     Nothing,
     Empty,
@@ -28,6 +31,8 @@ pub enum Node {
     Alt,
     Star,
     Either(usize),
+    And,
+    Not,
 }
 
 // How many rules a book has and how many nodes in all, or why it is refused.
@@ -86,6 +91,8 @@ pub fn takes(n: Node) -> usize
         Node::Alt => 2,
         Node::Star => 1,
         Node::Either(_) => 0,
+        Node::And => 2,
+        Node::Not => 1,
     }
 }
 
@@ -125,10 +132,23 @@ fn read_either(book: &[u8], at: usize) -> NodeRead
     NodeRead::At(Node::Either(x), after)
 }
 
-// What stands after each code, if the version has it; a number that is none is refused where it starts.
+// Whether books of that version have that code: Either's is the last of version 1, Not's of version 2.
+fn allowed(version: usize, code: usize) -> bool
+    ensures { λ r. ⌜ r ≡ allowedOf version code ⌝ }
+{
+    if version == FIRST_VERSION {
+        return code <= CODE_EITHER;
+    }
+    code <= CODE_NOT
+}
+
+// What stands after each code, if the version has it; a number that is none of its codes is refused where it starts.
 fn read_after(book: &[u8], at: usize, version: usize, start: usize, code: usize) -> NodeRead
     ensures { λ r. ⌜ nodeRead r ≡ readAfter (now (book .entry)) version start code at ⌝ }
 {
+    if !allowed(version, code) {
+        return NodeRead::Refused(Refusal::Range(start));
+    }
     match code {
         CODE_NOTHING => NodeRead::At(Node::Nothing, at),
         CODE_EMPTY => NodeRead::At(Node::Empty, at),
@@ -137,6 +157,8 @@ fn read_after(book: &[u8], at: usize, version: usize, start: usize, code: usize)
         CODE_ALT => NodeRead::At(Node::Alt, at),
         CODE_STAR => NodeRead::At(Node::Star, at),
         CODE_EITHER => read_either(book, at),
+        CODE_AND => NodeRead::At(Node::And, at),
+        CODE_NOT => NodeRead::At(Node::Not, at),
         _ => NodeRead::Refused(Refusal::Range(start)),
     }
 }

@@ -7,36 +7,40 @@ use mathlib.Core.Bool.{Bool, true, false, cond, _&&_, _||_}
 use mathlib.Core.List.{List}
 use lib.Dec.{leb, eqb}
 use lib.ListN.{length}
-use borrow.Author.Tests.{ne-eqb}
+use borrow.Author.Tests.{eq-eqb, ne-eqb}
 use Rattle.number.specs.Branch.{by-cond}
-use Rattle.meaning.specs.declared.Join.the-variants.{Then, Or}
+use Rattle.meaning.specs.declared.Join.{Join}
+use Rattle.meaning.specs.declared.Join.the-variants.{Then, Or, Both}
 use Rattle.meaning.specs.Re.{Re, size, isNothing, isEmpty}
-use Rattle.meaning.specs.Normal.{cat, alt}
+use Rattle.meaning.specs.Normal.{cat, negated, formed}
 use Rattle.meaning.specs.Derive.{deriv}
 use Rattle.meaning.specs.Limited.{Fit, _>>=_, short, fit, derivFit}
 use Rattle.meaning.specs.Limited.Fit.{Long, Fits}
 use Rattle.meaning.specs.LimitedLaws.{deriv-short, deriv-fits-short}
-use Rattle.meaning.specs.Shape.{InShape}
-use Rattle.meaning.specs.ShapeLaws.{shape-cat, shape-deriv, cat-members}
+use Rattle.meaning.specs.Shape.{InShape, Sorts}
+use Rattle.meaning.specs.ShapeLaws.{shape-cat, shape-negated, shape-deriv, cat-members}
 use Rattle.meaning.specs.PartLaws.{size-some}
+use Rattle.meaning.specs.Tests.{clash}
 use Rattle.meaning.specs.SizeLaws.{short-members, part-short}
 use Rattle.term.specs.declared.Term.{Term}
-use Rattle.term.specs.declared.Term.the-variants.{Nothing, Empty, Range, Cat, Alt, Star}
+use Rattle.term.specs.declared.Term.the-variants.{Nothing, Empty, Range, Cat, Alt, Star, And, Not}
 use Rattle.term.specs.Cells.{grow, term, Below, Sound}
 use Rattle.term.specs.Area.{pending, GrownFree, Room, Makes}
-use Rattle.term.specs.Nodes.{kindOf, firstOf, secondOf, arityOf, Found}
+use Rattle.term.specs.Nodes.{kindOf, firstOf, secondOf, arityOf, Found, OnePart, TwoParts}
 use Rattle.term.specs.CellLaws.{sound-less, grown-refl, grown-trans, grown-term, makes-old, makes-free, makes-after}
 use Rattle.term.specs.ReadLaws.{one-part, two-parts, one-size, two-size}
 use Rattle.normal.specs.declared.Made.{Made}
 use Rattle.normal.specs.declared.Made.the-variants.{Term as Made·term, Long as Made·long}
 use Rattle.normal.specs.Made.{MadeBy}
 use Rattle.normal.specs.Asked.{members, mostMembers, catCells, CountedLinks}
-use Rattle.normal.specs.Builds.{CatFits}
+use Rattle.normal.specs.Builds.{CatFits, NegatedFits}
+use Rattle.normal.specs.NodeLaws.{members-some}
 use Rattle.normal.specs.ChainLaws.{cat-few, cat-idle-left}
 use Rattle.normal.specs.AnswerLaws.{Got, long-is, made-term, made-after, long-after}
-use Rattle.choice.specs.Asked.{altCells, CountedSides}
-use Rattle.choice.specs.UniteLaws.{alt-few, alt-idle-left}
-use Rattle.derivative.specs.Derives.{derivRoom, derivCells, Derives, leafLeft, restOf, restFit, restCells, bothSides, Rested}
+use Rattle.merged.specs.Asked.{mergeCells, CountedSides}
+use Rattle.merged.specs.Builds.{MergedFits}
+use Rattle.merged.specs.UniteLaws.{merge-few, merge-idle-left}
+use Rattle.derivative.specs.Derives.{derivRoom, derivCells, Derives, leafLeft, restOf, sided, restFit, restCells, bothSides, joinOf, Rested}
 
 -- ---- the limited derivative is short
 
@@ -50,6 +54,9 @@ Shaped (Fits v) = InShape v
 
 fit-is-short : (v : Re) → Short (fit v)
 fit-is-short v = by-cond Short (short v) (λ e. e) (λ _. tt)
+
+fit-shaped : (v : Re) → InShape v → Shaped (fit v)
+fit-shaped v p = by-cond Shaped (short v) (λ _. p) (λ _. tt)
 
 fits-short : (f : Fit) (v : Re) → Short f → f ≡ Fits v → short v ≡ true
 fits-short f v h e = rw e at h
@@ -65,7 +72,7 @@ fit-value v w = go (short v)
     go true e = cc
     go false e = absurd (let z : _≡_ {A = ℕ} 0 1 = cc in omega arith)
 
--- ---- the limited derivative by its parts: that of the first part, the rest behind it, and where it is a choice the second side's
+-- ---- the limited derivative by its parts: that of the first part, what becomes of it, and where it is joined the second side's
 
 abbrev partsFit : ℕ → ℕ → Re → Re → Fit
 partsFit c kind x y = do
@@ -74,21 +81,18 @@ partsFit c kind x y = do
   elim (bothSides kind x) [
     | true ↦ do
       z ← derivFit c y
-      fit (alt w z)
+      fit (formed (joinOf kind) w z)
     | false ↦ Fits w
   ]
 
-star-parts : (c : ℕ) (a : Re) → derivFit c (Re.Star a) ≡ partsFit c 5 a (Re.Star a)
-unfolding derivFit
-star-parts c a = go (derivFit c a)
+-- where the second side is not joined, nothing follows
+one-step : (m : Fit) (g : Re → Re) → (m >>= λ v. fit (g v)) ≡ (m >>= λ v. fit (g v) >>= λ w. Fits w)
+one-step Long g = refl
+one-step (Fits v) g = same (fit (g v))
   where
     same : (m : Fit) → m ≡ (m >>= Fits)
     same Long = refl
     same (Fits w) = refl
-
-    go : (m : Fit) → (m >>= λ v. fit (cat v (Re.Star a))) ≡ (m >>= λ v. fit (cat v (Re.Star a)) >>= λ w. Fits w)
-    go Long = refl
-    go (Fits v) = same (fit (cat v (Re.Star a)))
 
 module _ (c kind : ℕ) (x y : Re) where
   long-1 : derivFit c x ≡ Long → partsFit c kind x y ≡ Long
@@ -105,32 +109,40 @@ module _ (c kind : ℕ) (x y : Re) where
       long-3 : bothSides kind x ≡ true → derivFit c y ≡ Long → partsFit c kind x y ≡ Long
       long-3 n h = rw (d, e, n, h)
 
-      fits-both : bothSides kind x ≡ true → (z : Re) → derivFit c y ≡ Fits z → fit (alt w z) ≡ partsFit c kind x y
+      fits-both : bothSides kind x ≡ true → (z : Re) → derivFit c y ≡ Fits z → fit (formed (joinOf kind) w z) ≡ partsFit c kind x y
       fits-both n z h = rw (d, e, n, h)
 
--- with the rest behind it a derivative is short and in shape, and this uses few cells
-module _ (kind : ℕ) (v y : Re) (short-v : short v ≡ true) where
-  rest-short : (w : Re) → restFit kind v y ≡ Fits w → short w ≡ true
-  rest-short w = fits-short (restFit kind v y) w (by-cond Short (eqb kind 4) (λ _. short-v) (λ _. fit-is-short (cat v y)))
+-- what becomes of the first part's derivative is short and in shape, and this uses few cells
+module _ (kind : ℕ) (v y : Re) where
+  by-kind : (P : Fit → Type 0) → P (Fits v) → P (fit (negated v)) → P (fit (cat v y)) → P (restFit kind v y)
+  by-kind P f g h = by-cond P (sided kind) (λ _. f) (λ _. by-cond P (eqb kind 7) (λ _. g) (λ _. h))
 
-  rest-few : restCells kind v y ≤ mostMembers
-  rest-few = by-cond (λ n. n ≤ mostMembers) (eqb kind 4) (λ _. omega arith) (λ _. omega (arith, cat-few v y, short-members Then v short-v))
+  rest-short : short v ≡ true → (w : Re) → restFit kind v y ≡ Fits w → short w ≡ true
+  rest-short e w = fits-short (restFit kind v y) w (by-kind Short e (fit-is-short (negated v)) (fit-is-short (cat v y)))
 
-rest-shape : (kind : ℕ) (v y w : Re) → InShape v → InShape y → restFit kind v y ≡ Fits w → InShape w
-rest-shape kind v y w p q e = rw e at shaped
-  where
-    shaped : Shaped (restFit kind v y)
-    shaped = by-cond Shaped (eqb kind 4) (λ _. p) (λ _. by-cond Shaped (short (cat v y)) (λ _. shape-cat v y p q) (λ _. tt))
+  rest-few : short v ≡ true → restCells kind v y ≤ mostMembers
+  rest-few e =
+      by-cond (λ n. n ≤ mostMembers) (sided kind) (λ _. omega arith)
+      (λ _. by-cond (λ n. n ≤ mostMembers) (eqb kind 7) (λ _. omega arith) (λ _. omega (arith, cat-few v y, short-members Then v e)))
 
--- what with_rest answers: the derivative alone, or with the rest behind it
-module _ {s : List ℕ} {top da b : ℕ} (l : CountedLinks s top da b) where
-  pub rest-none : {kind : ℕ} → kind ≡ 4 → Rested s top kind da b s (Made·term da top)
-  rest-none {kind} e =
+  rest-shape : (w : Re) → InShape v → InShape y → restFit kind v y ≡ Fits w → InShape w
+  rest-shape w p q e = rw e at (by-kind Shaped p (fit-shaped (negated v) (shape-negated v p)) (fit-shaped (cat v y) (shape-cat v y p q)))
+
+-- what with_rest answers: the derivative alone, or turned, or with the rest behind it
+module _ {s : List ℕ} {top da b : ℕ} (l : CountedLinks s top da b) (kind : ℕ) {p : Bool} (q : p ≡ sided kind) where
+  pub rest-none : p ≡ true → Rested s top kind da b s (Made·term da top)
+  rest-none e =
       made-term (restFit kind (term s da) (term s b)) (restCells kind (term s da) (term s b))
-      (makes-old da 0 (term s da) (l .links .sound) (l .links .left) refl) (rw e) (omega arith)
+      (makes-old da 0 (term s da) (l .links .sound) (l .links .left) refl) (rw (sym q ∙ e)) (omega arith)
 
-  pub rest-behind : {kind : ℕ} → (kind ≡ 4 → ⊥) → {s′ : List ℕ} {r : Made} → CatFits s top da b s′ r → Rested s top kind da b s′ r
-  rest-behind {kind} n m = rw (ne-eqb kind 4 n) m
+  pub rest-turned : p ≡ false → kind ≡ 7 → {s′ : List ℕ} {r : Made} → NegatedFits s top da s′ r → Rested s top kind da b s′ r
+  rest-turned e k m = rw (sym q ∙ e, eq-eqb kind 7 k) m
+
+  pub rest-behind : p ≡ false → (kind ≡ 7 → ⊥) → {s′ : List ℕ} {r : Made} → CatFits s top da b s′ r → Rested s top kind da b s′ r
+  rest-behind e n m = rw (sym q ∙ e, ne-eqb kind 7 n) m
+
+pub turned-asks : {s : List ℕ} {top da b : ℕ} → CountedLinks s top da b → Sound s top × ((da < top) × Room s top (1 + pending))
+turned-asks {s} {top} {da} l = (l .links .sound, (l .links .left, omega (arith, l .count-room, members-some Then (term s da))))
 
 -- ---- the cells that the two steps of a Cat use together
 
@@ -145,21 +157,21 @@ unfolding cat
 left-none v b e = rw e
 
 two-steps : (v b w z : Re) → w ≡ cat v b → InShape w → InShape z → short v ≡ true → short w ≡ true → short z ≡ true → isNothing b ≡ false
-    → isEmpty b ≡ false → catCells v b + altCells w z ≤ 2 * mostMembers
+    → isEmpty b ≡ false → catCells v b + mergeCells Or w z ≤ 2 * mostMembers
 two-steps v b w z e s t sv sw sz m n = go (isNothing v) (isEmpty v) refl refl
   where
-    go : (p q : Bool) → isNothing v ≡ p → isEmpty v ≡ q → catCells v b + altCells w z ≤ 2 * mostMembers
+    go : (p q : Bool) → isNothing v ≡ p → isEmpty v ≡ q → catCells v b + mergeCells Or w z ≤ 2 * mostMembers
     go true q f g =
         let gone : isNothing w ≡ true = ap isNothing (e ∙ left-none v b f) in
-        omega (arith, cat-idle-left v b (or-left (isEmpty v) f), alt-idle-left w z gone)
+        omega (arith, cat-idle-left v b (or-left (isEmpty v) f), merge-idle-left Or w z gone)
     go false true f g =
-        omega (arith, cat-idle-left v b (or-right f g), alt-few w z s t, short-members Or w sw, short-members Or z sz)
+        omega (arith, cat-idle-left v b (or-right f g), merge-few Or tt w z s t, short-members Or w sw, short-members Or z sz)
     go false false f g =
         omega (
           arith,
           cat-few v b,
           short-members Then v sv,
-          alt-few w z s t,
+          merge-few Or tt w z s t,
           ap (members Or) e,
           cat-members v b f g m n,
           short-members Or z sz,
@@ -179,12 +191,20 @@ leaf-fits s c (Range lo hi) w h e = rw e (ap Fits (range-grown s (leb lo c && le
 leaf-fits s c (Cat a b) w h e = absurd (omega arith)
 leaf-fits s c (Alt a b) w h e = absurd (omega arith)
 leaf-fits s c (Star a) w h e = absurd (omega arith)
+leaf-fits s c (And a b) w h e = absurd (omega arith)
+leaf-fits s c (Not a) w h e = absurd (omega arith)
 
 leaf-below : (top c : ℕ) (u w : Term) → w ≡ leafLeft u c → Below w top
 leaf-below top c u w e =
     rw e (by-cond (λ v. Below v top) (eqb (kindOf u) 2 && (leb (firstOf u) c && leb c (secondOf u))) (λ _. tt) (λ _. tt))
 
 -- ---- a node with parts, of any kind: what the derivative asks of its first part and of the rest
+
+-- the cells of what becomes of the first part's derivative, and of the merge with the second side's
+abbrev Steps : ℕ → Re → Re → Type 0
+Steps kind x y =
+    bothSides kind x ≡ true → (v w z : Re) → restFit kind v y ≡ Fits w → InShape w → InShape z
+    → short v ≡ true → short w ≡ true → short z ≡ true → restCells kind v y + mergeCells (joinOf kind) w z ≤ 2 * mostMembers
 
 pub record Parts (s : List ℕ) (i kind a b : ℕ) : Type 0 where
   pub first : a < i
@@ -193,10 +213,44 @@ pub record Parts (s : List ℕ) (i kind a b : ℕ) : Type 0 where
   pub rest-shape : InShape (term s b)
   pub larger : size (term s a) < size (term s i)
   pub is : (c : ℕ) → derivFit c (term s i) ≡ partsFit c kind (term s a) (term s b)
-  -- where the second side's derivative is a choice
+  -- where the second side's derivative is joined
   pub second : bothSides kind (term s a) ≡ true → (b < i) × (size (term s i) ≡ 1 + size (term s a) + size (term s b))
-  pub steps : bothSides kind (term s a) ≡ true → (v w z : Re) → restFit kind v (term s b) ≡ Fits w → InShape w → InShape z
-      → short v ≡ true → short w ≡ true → short z ≡ true → restCells kind v (term s b) + altCells w z ≤ 2 * mostMembers
+  pub steps : Steps kind (term s a) (term s b)
+
+-- of a node with two parts, and of one with one
+of-two : {s : List ℕ} {i a b : ℕ} (kind : ℕ) → TwoParts s i a b → InShape (term s a) → InShape (term s b)
+    → ((c : ℕ) → derivFit c (term s i) ≡ partsFit c kind (term s a) (term s b)) → Steps kind (term s a) (term s b) → Parts s i kind a b
+of-two kind p t u e h = record {
+  first = p .first;
+  rest = omega (arith, p .second);
+  first-shape = t;
+  rest-shape = u;
+  larger = omega (arith, two-size p);
+  is = e;
+  second = λ _. (p .second, two-size p);
+  steps = h;
+}
+
+of-one : {s : List ℕ} {i a : ℕ} (kind : ℕ) → OnePart s i a → InShape (term s a) → InShape (term s i)
+    → ((c : ℕ) → derivFit c (term s i) ≡ partsFit c kind (term s a) (term s i)) → bothSides kind (term s a) ≡ false → Parts s i kind a i
+of-one kind p t u e n = record {
+  first = p .below;
+  rest = omega arith;
+  first-shape = t;
+  rest-shape = u;
+  larger = omega (arith, one-size p);
+  is = e;
+  second = λ y. absurd (clash y n);
+  steps = λ y. absurd (clash y n);
+}
+
+-- both operators sort
+join-sorts : (kind : ℕ) → Sorts (joinOf kind)
+join-sorts kind = by-cond Sorts (eqb kind 6) (λ _. tt) (λ _. tt)
+
+-- two derivatives that stand alone, merged
+merge-steps : (k : Join) → Sorts k → (w z : Re) → InShape w → InShape z → short w ≡ true → short z ≡ true → mergeCells k w z ≤ 2 * mostMembers
+merge-steps k o w z p q e d = omega (arith, merge-few k o w z p q, short-members k w e, short-members k z d)
 
 parts-of : (s : List ℕ) (i : ℕ) (u : Term) → Found s i u → (arityOf u ≡ 0 → ⊥) → InShape (term s i) → Parts s i (kindOf u) (firstOf u) (restOf u i)
 unfolding derivFit
@@ -205,42 +259,20 @@ parts-of s i Empty f h t = absurd (h refl)
 parts-of s i (Range lo hi) f h t = absurd (h refl)
 parts-of s i (Cat a b) f h t =
     let whole : InShape (Re.Cat (term s a) (term s b)) = rw (f .is) at t in
-    record {
-      first = f .below .0;
-      rest = omega (arith, f .below .1);
-      first-shape = whole .0;
-      rest-shape = whole .1;
-      larger = omega (arith, two-size (two-parts f refl refl refl));
-      is = λ c. ap (derivFit c) (f .is);
-      second = λ _. (f .below .1, two-size (two-parts f refl refl refl));
-      steps = λ _ v w z e k l m n o.
-          two-steps v (term s b) w z (fit-value (cat v (term s b)) w e) k l m n o (whole .2 .right-some) (whole .2 .right-long);
-    }
+    of-two 3 (two-parts f refl refl refl) (whole .0) (whole .1) (λ c. ap (derivFit c) (f .is)) (λ _ v w z e k l m n o.
+    two-steps v (term s b) w z (fit-value (cat v (term s b)) w e) k l m n o (whole .2 .right-some) (whole .2 .right-long))
 parts-of s i (Alt a b) f h t =
     let whole : InShape (Re.Alt (term s a) (term s b)) = rw (f .is) at t in
-    record {
-      first = f .below .0;
-      rest = omega (arith, f .below .1);
-      first-shape = whole .0;
-      rest-shape = whole .1;
-      larger = omega (arith, two-size (two-parts f refl refl refl));
-      is = λ c. ap (derivFit c) (f .is);
-      second = λ _. (f .below .1, two-size (two-parts f refl refl refl));
-      steps = λ _ v w z e k l m n o. omega (arith, alt-few w z k l, short-members Or w n, short-members Or z o);
-    }
+    of-two 4 (two-parts f refl refl refl) (whole .0) (whole .1) (λ c. ap (derivFit c) (f .is)) (λ _ v w z _ k l _ n o. omega (arith, merge-steps Or tt w z k l n o))
 parts-of s i (Star a) f h t =
     let whole : InShape (Re.Star (term s a)) = rw (f .is) at t in
-    let no : (_≡_ {A = Bool} false true) → ⊥ = λ e. let z : _≡_ {A = ℕ} 0 1 = cc in omega arith in
-    record {
-      first = f .below;
-      rest = omega arith;
-      first-shape = whole .0;
-      rest-shape = t;
-      larger = omega (arith, one-size (one-part f refl refl));
-      is = λ c. rw (f .is) (star-parts c (term s a));
-      second = λ e. absurd (no e);
-      steps = λ e. absurd (no e);
-    }
+    of-one 5 (one-part f refl refl) (whole .0) t (λ c. rw (f .is) (one-step (derivFit c (term s a)) (λ v. cat v (Re.Star (term s a))))) refl
+parts-of s i (And a b) f h t =
+    let whole : InShape (Re.And (term s a) (term s b)) = rw (f .is) at t in
+    of-two 6 (two-parts f refl refl refl) (whole .0) (whole .1) (λ c. ap (derivFit c) (f .is)) (λ _ v w z _ k l _ n o. omega (arith, merge-steps Both tt w z k l n o))
+parts-of s i (Not a) f h t =
+    let whole : InShape (Re.Not (term s a)) = rw (f .is) at t in
+    of-one 7 (one-part f refl refl) (whole .0) t (λ c. rw (f .is) (one-step (derivFit c (term s a)) negated)) refl
 
 -- as the code has read it
 pub parts : {s : List ℕ} {i : ℕ} {u : Term} {kind a b : ℕ} → Found s i u → (arityOf u ≡ 0 → ⊥) → InShape (term s i) → kind ≡ kindOf u → a ≡ firstOf u
@@ -277,17 +309,18 @@ part-cells r x h = omega (arith, cells-size r, cells-size x, size-some x)
 two-cells : (r x y : Re) → size r ≡ 1 + size x + size y → derivCells r ≡ derivCells x + derivCells y + 2 * mostMembers + 1
 two-cells r x y e = omega (arith, cells-size r, cells-size x, cells-size y, size-some x, size-some y)
 
--- two derivatives that fit, to choose from
-counted-sides : {s : List ℕ} {top a b : ℕ} (x y : Re) → Sound s top → a < top → b < top → term s a ≡ x → term s b ≡ y → InShape x → InShape y
-    → short x ≡ true → short y ≡ true → Room s top (2 * mostMembers + pending) → CountedSides Or s top a b
-counted-sides {s} {top} {a} {b} x y ok h k p q t u v w m =
-    let room : Room s top (members Or (term s a) + members Or (term s b) + pending) =
-    omega (arith, m, ap (members Or) p, ap (members Or) q, short-members Or x v, short-members Or y w) in
+-- two derivatives that fit, to be merged
+counted-sides : {k : Join} (o : Sorts k) {s : List ℕ} {top a b : ℕ} (x y : Re) → Sound s top → a < top → b < top → term s a ≡ x → term s b ≡ y → InShape x → InShape y
+    → short x ≡ true → short y ≡ true → Room s top (2 * mostMembers + pending) → CountedSides k s top a b
+counted-sides {k} o {s} {top} {a} {b} x y ok h g p q t u v w m =
+    let room : Room s top (members k (term s a) + members k (term s b) + pending) =
+    omega (arith, m, ap (members k) p, ap (members k) q, short-members k x v, short-members k y w) in
     record {
       sides = record {
+        sorts = o;
         sound = ok;
         left = h;
-        right = k;
+        right = g;
         left-shape = rw p t;
         right-shape = rw q u;
         left-short = rw p v;
@@ -428,7 +461,7 @@ module _ {s : List ℕ} {top i : ℕ} (d : Derives s top i) where
             (p .is c ∙ fits-left c kind (term s a) (term s b) (g .value) (g .fits) (h .value) left-fits n)
             (omega (arith, left-cells, left-few, fewer))
 
-        -- the second side's derivative is a choice too
+        -- the second side's derivative is joined
         module _ (n : bothSides kind (term s a) ≡ true) where
           both-cells : derivCells (term s i) ≡ derivCells (term s a) + derivCells (term s b) + 2 * mostMembers + 1
           both-cells = two-cells (term s i) (term s a) (term s b) (p .second n .1)
@@ -466,24 +499,23 @@ module _ {s : List ℕ} {top i : ℕ} (d : Derives s top i) where
             few-3 : third ≤ top + (derivCells (term s a) + restCells kind (g .value) (term s b) + derivCells (term s b))
             few-3 = omega (arith, few-2, k .makes .few, ap derivCells rest-stays-2)
 
-            pub choice-asks : CountedSides Or s₃ third left db
-            choice-asks =
-                counted-sides (h .value) (k .value) (k .makes .grown .sound) (omega (arith, h .makes .within, k .makes .grown .up))
+            pub merge-asks : {k : Join} → k ≡ joinOf kind → CountedSides k s₃ third left db
+            merge-asks e =
+                rw e (counted-sides (join-sorts kind) (h .value) (k .value) (k .makes .grown .sound) (omega (arith, h .makes .within, k .makes .grown .up))
                 (k .makes .within) left-stays (k .makes .is) left-shape db-shape left-short db-short
-                (omega (arith, few-3, left-few, k .makes .grown .same-length, grown-2 .same-length, d .room, room-cells (term s i), both-cells))
+                (omega (arith, few-3, left-few, k .makes .grown .same-length, grown-2 .same-length, d .room, room-cells (term s i), both-cells)))
 
-            last-cells : altCells (term s₃ left) (term s₃ db) ≡ altCells (h .value) (k .value)
+            last-cells : mergeCells (joinOf kind) (term s₃ left) (term s₃ db) ≡ mergeCells (joinOf kind) (h .value) (k .value)
             last-cells = cc (left-stays, k .makes .is)
 
-            last-same : fit (alt (term s₃ left) (term s₃ db)) ≡ fit (alt (h .value) (k .value))
+            last-same : fit (formed (joinOf kind) (term s₃ left) (term s₃ db)) ≡ fit (formed (joinOf kind) (h .value) (k .value))
             last-same = cc (left-stays, k .makes .is)
 
-            pub choice-up : {s₄ : List ℕ} {r : Made}
-                → MadeBy s₃ third s₄ r (fit (alt (term s₃ left) (term s₃ db))) (altCells (term s₃ left) (term s₃ db))
+            pub merge-up : {j : Join} → j ≡ joinOf kind → {s₄ : List ℕ} {r : Made} → MergedFits j s₃ third left db s₄ r
                 → MadeBy s top s₄ r (derivFit c (term s i)) (derivCells (term s i))
-            choice-up m =
+            merge-up e m =
                 let used = derivCells (term s a) + restCells kind (g .value) (term s b) + derivCells (term s b) in
-                made-after used (derivCells (term s i)) (derivFit c (term s i)) (grown-trans grown-2 (k .makes .grown)) few-3 m
+                made-after used (derivCells (term s i)) (derivFit c (term s i)) (grown-trans grown-2 (k .makes .grown)) few-3 (rw e at m)
                 (last-same ∙ fits-both c kind (term s a) (term s b) (g .value) (g .fits) (h .value) left-fits n (k .value) db-fits ∙ sym (p .is c))
                 (omega (
                   arith,

@@ -16,7 +16,7 @@ use Rattle.meaning.specs.SizeLaws.{short-size}
 use Rattle.meaning.specs.Edges.{rangeEdge, ownEdge, nextEdge, nextEdgeAll}
 use Rattle.meaning.specs.EdgeLaws.{edge-parts, edge-none, edge-more, edge-within}
 use Rattle.term.specs.declared.Term.{Term}
-use Rattle.term.specs.declared.Term.the-variants.{Nothing, Empty, Range, Cat, Alt, Star}
+use Rattle.term.specs.declared.Term.the-variants.{Nothing, Empty, Range, Cat, Alt, Star, And, Not}
 use Rattle.term.specs.Cells.{nodeOf, grow, term, Below, Sound}
 use Rattle.term.specs.Nodes.{kindOf, firstOf, secondOf, arityOf, Fields, Found, OnePart, TwoParts}
 use Rattle.term.specs.Places.{termsAt, ahead, mostWaiting}
@@ -52,6 +52,8 @@ own-grow c (Range lo hi) f = refl
 own-grow c (Cat a b) f = refl
 own-grow c (Alt a b) f = refl
 own-grow c (Star a) f = refl
+own-grow c (And a b) f = refl
+own-grow c (Not a) f = refl
 
 range-within : (c lo hi : ℕ) → lo ≤ lastByte → hi ≤ lastByte → rangeEdge c lo hi ≤ bytes
 unfolding rangeEdge

@@ -9,15 +9,19 @@ ghost use Rattle.meaning.specs.Limited.{short};
 ghost use Rattle.term.specs.Cells.{term, Sound};
 ghost use Rattle.term.specs.Nodes.{Fields};
 ghost use Rattle.normal.specs.Asked.{CountedLinks};
-ghost use Rattle.derivative.specs.Derives.{Derives, leafLeft, restOf, bothSides, Rested, Derived};
+ghost use Rattle.derivative.specs.Derives.{Derives, leafLeft, restOf, sided as sidedKind, bothSides, joinOf, Rested, Derived};
 ghost use Rattle.derivative.specs.Waiting.{leafEdge};
-use choice::alt_short;
+use meaning::Join;
+use merged::merge_short;
 use normal::Made;
 use normal::cat_fit;
+use normal::negated_fit;
 use normal::store;
 use number::limits::BYTES;
 use term::ALT;
+use term::AND;
 use term::CAT;
+use term::NOT;
 use term::RANGE;
 use term::Term;
 use term::WAITING;
@@ -54,18 +58,28 @@ fn rest_of(node: Term, i: usize) -> usize
     second_of(node)
 }
 
-// The first part's derivative with the rest behind it; in an Alt it stands alone.
+// Whether the derivative goes to both sides of a node and leaves nothing behind the first.
+fn sided(kind: usize) -> bool
+    ensures { λ r. ⌜ r ≡ sidedKind kind ⌝ }
+{
+    kind == ALT || kind == AND
+}
+
+// What the first part's derivative becomes: in a Not it is turned, else the rest stands behind it.
 fn with_rest(cells: &mut [u64], top: usize, kind: usize, da: usize, rest: usize) -> Made
     requires { ⌜ CountedLinks (now cells) top da rest ⌝ }
     ensures { λ r. ⌜ Rested (now (cells .entry)) top kind da rest (now (cells .exit)) r ⌝ }
 {
-    if kind == ALT {
+    if sided(kind) {
         return Made::Term(da, top);
+    }
+    if kind == NOT {
+        return negated_fit(cells, top, da);
     }
     cat_fit(cells, top, da, rest)
 }
 
-// Whether the second side's derivative is a choice too: in a Cat only where the first side matches the empty text.
+// Whether the second side's derivative is joined to that: in a Cat only where the first side matches the empty text.
 fn both_sides(cells: &[u64], kind: usize, a: usize) -> bool
     requires { ⌜ Sound (now cells) (a + 1) ⌝ }
     ensures { λ r. ⌜ r ≡ bothSides kind (term (now (cells .entry)) a) ⌝ }
@@ -73,12 +87,22 @@ fn both_sides(cells: &[u64], kind: usize, a: usize) -> bool
     if kind == CAT {
         return nullable(cells, a);
     }
-    kind == ALT
+    sided(kind)
 }
 
-// The derivative of a term by a byte. That of the second side is worked out only where it is a choice.
+// And how: in an And both at once, else as a choice.
+fn join_of(kind: usize) -> Join
+    ensures { λ r. ⌜ r ≡ joinOf kind ⌝ }
+{
+    if kind == AND {
+        return Join::Both;
+    }
+    Join::Or
+}
+
+// The derivative of a term by a byte. That of the second side is worked out only where it is joined.
 // It calls itself, so its frame is there once for each level of the term, and each call that answers a Made keeps a place of its own
-// in the frame. So Cat, Alt and Star share the same few calls.
+// in the frame. So all kinds share the same few calls.
 pub fn derive(cells: &mut [u64], top: usize, i: usize, byte: usize) -> Made
     requires { ⌜ Derives (now cells) top i ⌝ }
     ensures { λ r. ⌜ Derived (now (cells .entry)) top i byte (now (cells .exit)) r ⌝ }
@@ -101,7 +125,7 @@ pub fn derive(cells: &mut [u64], top: usize, i: usize, byte: usize) -> Made
         let Made::Term(db, third) = derive(cells, second, rest, byte) else {
             return Made::Long;
         };
-        return alt_short(cells, third, left, db);
+        return merge_short(cells, third, left, db, join_of(kind));
     }
     Made::Term(left, second)
 }

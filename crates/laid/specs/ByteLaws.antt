@@ -1,5 +1,5 @@
 -- Laws of the bytes of laid nodes: how many there are at most, one cell more, and that they are the nodes' own bytes.
--- Only Either cannot be typed, and is not laid.
+-- Either, And and Not cannot be typed, and are not laid.
 use Prim.Native.Nat.{ℕ, suc, _+_, _*_, _/_, _%_, _<_, _≤_}
 use native.Mathlib.Omega.{arith}
 use mathlib.Core.Path.{_≡_, refl, sym, ap, _∙_}
@@ -15,7 +15,7 @@ use Rattle.number.specs.Lists.{Writes, writes-none, writes-then, written-length
 use Rattle.number.specs.Numbers.{writeNumber}
 use Rattle.number.specs.NumberLaws.{number-width}
 use Rattle.book.specs.declared.Node.{Node}
-use Rattle.book.specs.declared.Node.the-variants.{Nothing, Empty, Range, Cat, Alt, Star, Either}
+use Rattle.book.specs.declared.Node.the-variants.{Nothing, Empty, Range, Cat, Alt, Star, Either, And, Not}
 use Rattle.book.specs.Book.{writeNode, writeNodes}
 use Rattle.laid.specs.Laid.{pack}
 use Rattle.laid.specs.Bytes.{cellBytes, cellsBytes}
@@ -113,6 +113,8 @@ Typable Cat = Unit
 Typable Alt = Unit
 Typable Star = Unit
 Typable (Either x) = ⊥
+Typable And = ⊥
+Typable Not = ⊥
 
 abbrev pub AllTypable : List Node → Type 0
 AllTypable [] = Unit
@@ -131,6 +133,8 @@ node-bytes Cat f = refl
 node-bytes Alt f = refl
 node-bytes Star f = refl
 node-bytes (Either x) f = absurd f
+node-bytes And f = absurd f
+node-bytes Not f = absurd f
 
 pub nodes-bytes : (ns : List Node) → AllTypable ns → cellsBytes (map pack ns) ≡ writeNodes ns
 unfolding cellsBytes writeNodes

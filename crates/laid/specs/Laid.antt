@@ -6,14 +6,14 @@ use mathlib.Core.Bool.{cond}
 use mathlib.Core.List.{List, [], _∷_, _++_, map}
 use lib.Dec.{eqb}
 use lib.ListN.{length, take}
-use Rattle.number.specs.Limits.{nodes, codeNothing, codeEmpty, codeRange, codeCat, codeAlt, codeStar, codeEither}
+use Rattle.number.specs.Limits.{nodes, codeNothing, codeEmpty, codeRange, codeCat, codeAlt, codeStar, codeEither, codeAnd, codeNot}
 use Rattle.book.specs.declared.Node.{Node}
-use Rattle.book.specs.declared.Node.the-variants.{Nothing, Empty, Range, Cat, Alt, Star, Either}
+use Rattle.book.specs.declared.Node.the-variants.{Nothing, Empty, Range, Cat, Alt, Star, Either, And, Not}
 use Rattle.typed.specs.Exp.{Exp, postfix}
 use Rattle.typed.specs.Reader.{Mark, marked}
 use Rattle.typed.specs.Reader.Mark.{many, more, perhaps}
 
--- a node in a cell
+-- a node in a cell; the last three cannot be typed and are not laid
 abbrev pub pack : Node → ℕ
 pack Nothing = codeNothing
 pack Empty = codeEmpty
@@ -22,6 +22,8 @@ pack Cat = codeCat
 pack Alt = codeAlt
 pack Star = codeStar
 pack (Either x) = x * 8 + codeEither
+pack And = codeAnd
+pack Not = codeNot
 
 -- a count that stops one past a limit
 pub data Capped (limit : ℕ) : ℕ → ℕ → Type 0 where

@@ -1,10 +1,18 @@
 -- The textbook's clauses on texts, one after the other, as lines of the worked list's kind: what each kind of expression matches,
 -- which of several rules names a text, and the first word. Labels are 1 plus a rule, or 0; 97 is the letter a. SampleHolds proves them all.
 use mathlib.Core.List.{List, [], _∷_}
-use Rattle.meaning.specs.Re.Re.{Nothing, Empty, Range, Cat, Alt, Star}
+use Rattle.meaning.specs.Re.{Re}
+use Rattle.meaning.specs.Re.Re.{Nothing, Empty, Range, Cat, Alt, Star, And, Not}
 use Rattle.meaning.specs.Words.Found.{Stuck, Word}
 use Rattle.meaning.specs.Sample.{byte, oneOrMore, Line}
 use Rattle.meaning.specs.Sample.Line.{Named, Begins}
+
+-- any text; a note from /* to the first */ behind it: between them stands no */
+abbrev pub anything : Re
+anything = Star (Range 0 255)
+
+abbrev pub note : Re
+note = Cat (byte 47) (Cat (byte 42) (Cat (Not (Cat anything (Cat (byte 42) (Cat (byte 47) anything)))) (Cat (byte 42) (byte 47))))
 
 unfoldable pub clauses : List Line
 clauses =
@@ -45,6 +53,28 @@ clauses =
     Named (Star Nothing ∷ []) (97 ∷ []) 0 ∷
     Named (Star Empty ∷ []) [] 1 ∷
     Named (Star Empty ∷ []) (97 ∷ []) 0 ∷
+    -- And: texts of both
+    Named (And (Range 97 99) (Range 98 100) ∷ []) (98 ∷ []) 1 ∷
+    Named (And (Range 97 99) (Range 98 100) ∷ []) (97 ∷ []) 0 ∷
+    Named (And (Range 97 99) (Range 98 100) ∷ []) (100 ∷ []) 0 ∷
+    Named (And (Star (byte 97)) (Star (byte 98)) ∷ []) [] 1 ∷
+    Named (And (Star (byte 97)) (byte 97) ∷ []) [] 0 ∷
+    Named (And (byte 97) (byte 97) ∷ []) (97 ∷ []) 1 ∷
+    Named (And (byte 97) Nothing ∷ []) (97 ∷ []) 0 ∷
+    -- Not: all texts that its term does not match, of any bytes and of any length
+    Named (Not (byte 97) ∷ []) (97 ∷ []) 0 ∷
+    Named (Not (byte 97) ∷ []) [] 1 ∷
+    Named (Not (byte 97) ∷ []) (0 ∷ []) 1 ∷
+    Named (Not (byte 97) ∷ []) (255 ∷ []) 1 ∷
+    Named (Not (byte 97) ∷ []) (97 ∷ 97 ∷ []) 1 ∷
+    Named (Not Nothing ∷ []) (0 ∷ 255 ∷ 97 ∷ []) 1 ∷
+    Named (Not Empty ∷ []) [] 0 ∷
+    Named (Not Empty ∷ []) (97 ∷ []) 1 ∷
+    Named (Not (Not (byte 97)) ∷ []) (97 ∷ []) 1 ∷
+    Named (Not (Not (byte 97)) ∷ []) (98 ∷ []) 0 ∷
+    Named (And (byte 97) (Not (byte 97)) ∷ []) (97 ∷ []) 0 ∷
+    Named (And (Range 97 122) (Not (byte 98)) ∷ []) (98 ∷ []) 0 ∷
+    Named (And (Range 97 122) (Not (byte 98)) ∷ []) (99 ∷ []) 1 ∷
     -- of several rules the first that matches; of none 0
     Named (byte 97 ∷ byte 97 ∷ []) (97 ∷ []) 1 ∷
     Named (byte 98 ∷ Range 97 122 ∷ byte 97 ∷ []) (97 ∷ []) 2 ∷
@@ -64,4 +94,9 @@ clauses =
     Begins (Star (byte 97) ∷ []) (97 ∷ 97 ∷ 98 ∷ []) (Word 2 0) ∷
     Begins (Empty ∷ []) (97 ∷ []) Stuck ∷
     Begins (Star (byte 97) ∷ []) [] Stuck ∷
+    -- a note ends at the first closing sign: /**/, then a longer one with signs before it that close nothing; unfinished there is none
+    Begins (note ∷ []) (47 ∷ 42 ∷ 42 ∷ 47 ∷ 42 ∷ 47 ∷ []) (Word 4 0) ∷
+    Begins (note ∷ []) (47 ∷ 42 ∷ 42 ∷ 97 ∷ 47 ∷ 42 ∷ 42 ∷ 47 ∷ 47 ∷ []) (Word 8 0) ∷
+    Begins (note ∷ []) (47 ∷ 42 ∷ 47 ∷ []) Stuck ∷
+    Begins (note ∷ []) (47 ∷ 42 ∷ 97 ∷ 42 ∷ []) Stuck ∷
     []

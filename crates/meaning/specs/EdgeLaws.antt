@@ -10,7 +10,7 @@ use borrow.Author.Tests.{ltb-true, ltb-false, leb-true, leb-false, le-leb, lt-le
 use Rattle.number.specs.Branch.{by-cond}
 use Rattle.number.specs.Limits.{bytes, lastByte}
 use Rattle.meaning.specs.Re.{Re, parts}
-use Rattle.meaning.specs.Re.Re.{Nothing, Empty, Range, Cat, Alt, Star}
+use Rattle.meaning.specs.Re.Re.{Nothing, Empty, Range, Cat, Alt, Star, And, Not}
 use Rattle.meaning.specs.PartLaws.{All, all, by-parts, upward-parts}
 use Rattle.meaning.specs.Derive.{nullable, deriv}
 use Rattle.meaning.specs.Limited.{derivFit}
@@ -41,6 +41,8 @@ own-after c (Range lo hi) h =
 own-after c (Cat a b) h = omega arith
 own-after c (Alt a b) h = omega arith
 own-after c (Star a) h = omega arith
+own-after c (And a b) h = omega arith
+own-after c (Not a) h = omega arith
 
 all-after : (c : ℕ) (v : List Re) → c ≤ lastByte → All (λ r. c < nextEdge c r) v → c < nextEdgeAll c v
 all-after c [] h a = omega (arith, edge-none c)
@@ -92,6 +94,8 @@ deriv-edge c d (Cat a b) h k = go (nullable a) refl (deriv-edge c d a h (omega a
     go false e p q = rw (e, deriv) (rw p)
 deriv-edge c d (Alt a b) h k = rw (deriv-edge c d a h (omega arith), deriv-edge c d b h (omega arith))
 deriv-edge c d (Star a) h k = rw (deriv-edge c d a h (omega arith))
+deriv-edge c d (And a b) h k = rw (deriv-edge c d a h (omega arith), deriv-edge c d b h (omega arith))
+deriv-edge c d (Not a) h k = rw (deriv-edge c d a h (omega arith))
 
 pub fit-edge : (c d : ℕ) (r : Re) → c ≤ d → d < nextEdge c r → derivFit d r ≡ derivFit c r
 unfolding nextEdge least derivFit
@@ -105,6 +109,8 @@ fit-edge c d (Cat a b) h k = go (nullable a) refl (fit-edge c d a h (omega arith
     go false e p q = rw (e, derivFit) (rw p)
 fit-edge c d (Alt a b) h k = rw (fit-edge c d a h (omega arith), fit-edge c d b h (omega arith))
 fit-edge c d (Star a) h k = rw (fit-edge c d a h (omega arith))
+fit-edge c d (And a b) h k = rw (fit-edge c d a h (omega arith), fit-edge c d b h (omega arith))
+fit-edge c d (Not a) h k = rw (fit-edge c d a h (omega arith))
 
 -- of a row
 pub row-edge : (c d : ℕ) (v : List Re) → c ≤ d → d < nextEdgeAll c v → map (deriv d) v ≡ map (deriv c) v

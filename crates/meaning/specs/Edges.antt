@@ -6,7 +6,7 @@ use mathlib.Core.List.{List, [], _∷_, map}
 use lib.Dec.{leb, ltb}
 use Rattle.number.specs.Limits.{bytes}
 use Rattle.meaning.specs.Re.{Re, upward}
-use Rattle.meaning.specs.Re.Re.{Nothing, Empty, Range, Cat, Alt, Star}
+use Rattle.meaning.specs.Re.Re.{Nothing, Empty, Range, Cat, Alt, Star, And, Not}
 
 -- the next byte after c at which a range starts or has just ended, or the number of bytes if there is none
 unfoldable pub rangeEdge : ℕ → ℕ → ℕ → ℕ
@@ -20,6 +20,8 @@ ownEdge c (Range lo hi) = rangeEdge c lo hi
 ownEdge c (Cat a b) = bytes
 ownEdge c (Alt a b) = bytes
 ownEdge c (Star a) = bytes
+ownEdge c (And a b) = bytes
+ownEdge c (Not a) = bytes
 
 -- the least of edges
 unfoldable pub least : List ℕ → ℕ

@@ -8,13 +8,13 @@ use mathlib.Core.Logic.{_↔_, inl, inr}
 use lib.Dec.{leb}
 use Rattle.number.specs.Branch.{by-cond}
 use Rattle.meaning.specs.Re.{Re, isNothing, isEmpty}
-use Rattle.meaning.specs.Re.Re.{Nothing, Empty, Range, Cat, Alt, Star}
-use Rattle.meaning.specs.Normal.{chain, cat, kept, sorted, nested, alt, star, normal}
+use Rattle.meaning.specs.Re.Re.{Nothing, Empty, Range, Cat, Alt, Star, And, Not}
+use Rattle.meaning.specs.Normal.{chain, cat, kept, sorted, nested, alt, star, both, negated, normal}
 use Rattle.meaning.specs.Derive.{nullable, deriv, plain}
-use Rattle.meaning.specs.Shape.{InShape, Repeated}
-use Rattle.meaning.specs.declared.Join.the-variants.{Then, Or}
+use Rattle.meaning.specs.Shape.{InShape, Repeated, isNot, united}
+use Rattle.meaning.specs.declared.Join.the-variants.{Then, Or, Both}
 use Rattle.meaning.specs.JoinLaws.{gathered-joined, by-members, chain-one}
-use Rattle.meaning.specs.ShapeLaws.{alone, cat-chain, chain-some, chain-long, shape-normal}
+use Rattle.meaning.specs.ShapeLaws.{sorted-both, sorted-own, alone, formed-united, cat-chain, chain-some, chain-long, shape-normal}
 use Rattle.meaning.specs.Tests.{clash, or-true, or-of-true, is-nothing, is-empty}
 
 -- a Star in shape
@@ -26,11 +26,36 @@ star-own (Range lo hi) r = refl
 star-own (Cat a b) r = refl
 star-own (Alt a b) r = refl
 star-own (Star a) r = absurd (clash refl (r .no-star))
+star-own (And a b) r = refl
+star-own (Not a) r = refl
 
 -- a choice in shape
 alt-own : (a b : Re) → InShape (Alt a b) → alt a b ≡ Alt a b
 unfolding alt
 alt-own a b s = ap (λ (xs : List Re). nested Or (sorted (kept xs))) (sym (gathered-joined Or a b)) ∙ alone Or tt (Alt a b) s
+
+-- an And in shape
+both-own : (a b : Re) → InShape (And a b) → both a b ≡ And a b
+unfolding united
+both-own a b s =
+    formed-united Both tt a b (s .0) (s .1) (s .2 .left-some) (s .2 .right-some)
+    ∙ rw (← sorted-both Both tt a b (s .0) (s .1), ← gathered-joined Both a b) (sorted-own Both tt (And a b) s)
+
+-- a Not in shape
+pub negated-not : (a : Re) → negated (Not a) ≡ a
+unfolding negated
+negated-not a = refl
+
+pub negated-own : (a : Re) → isNot a ≡ false → negated a ≡ Not a
+unfolding negated
+negated-own Nothing e = refl
+negated-own Empty e = refl
+negated-own (Range lo hi) e = refl
+negated-own (Cat a b) e = refl
+negated-own (Alt a b) e = refl
+negated-own (Star a) e = refl
+negated-own (And a b) e = refl
+negated-own (Not a) e = absurd (clash refl e)
 
 -- a sequence in shape
 cat-own : (a b : Re) → InShape (Cat a b) → cat a b ≡ Cat a b
@@ -46,6 +71,8 @@ normal-own (Range lo hi) s = refl
 normal-own (Cat a b) s = rw (normal-own a (s .0), normal-own b (s .1)) (cat-own a b s)
 normal-own (Alt a b) s = rw (normal-own a (s .0), normal-own b (s .1)) (alt-own a b s)
 normal-own (Star a) s = rw (normal-own a (s .0)) (star-own a (s .1))
+normal-own (And a b) s = rw (normal-own a (s .0), normal-own b (s .1)) (both-own a b s)
+normal-own (Not a) s = rw (normal-own a (s .0)) (negated-own a (s .1))
 
 pub shape-exact : (r : Re) → InShape r ↔ (normal r ≡ r)
 shape-exact r = (normal-own r, λ e. subst InShape e (shape-normal r))
@@ -112,3 +139,5 @@ deriv-normal c (Cat a b) s = go (nullable a) refl (deriv-normal c a (s .0)) (der
     go false e p q = rw (e, deriv, plain) (rw (p, normal-own b (s .1)))
 deriv-normal c (Alt a b) s = rw (deriv-normal c a (s .0), deriv-normal c b (s .1))
 deriv-normal c (Star a) s = rw (deriv-normal c a (s .0), normal-own a (s .0), star-own a (s .1))
+deriv-normal c (And a b) s = rw (deriv-normal c a (s .0), deriv-normal c b (s .1))
+deriv-normal c (Not a) s = rw (deriv-normal c a (s .0))

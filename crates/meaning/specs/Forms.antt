@@ -1,20 +1,22 @@
--- Document 01's sentences on normal form and on the derivative, clause by clause: each line has what is given, and the term or the vector that must come out.
+-- The sentences of documents 01 and 02 (K6) on normal form and on the derivative, clause by clause: each line has what is given, and the term or the vector that must come out.
 -- FormsHold has the checker compute them all.
 use Prim.Native.Nat.{ℕ}
 use mathlib.Core.List.{List, [], _∷_}
 use Rattle.meaning.specs.Re.{Re, Text}
-use Rattle.meaning.specs.Re.Re.{Nothing, Empty, Range, Cat, Alt, Star}
-use Rattle.meaning.specs.Normal.{cat, alt, star, normal}
+use Rattle.meaning.specs.Re.Re.{Nothing, Empty, Range, Cat, Alt, Star, And, Not}
+use Rattle.meaning.specs.Normal.{cat, alt, both, star, negated, normal}
 use Rattle.meaning.specs.Derive.{deriv}
 use Rattle.meaning.specs.Rules.{start, deriveBy}
 use Rattle.meaning.specs.Sample.{byte, W}
 
--- Cat, Alt and Star of terms in normal form; the normal form of any term; the derivative by a byte;
+-- Cat, Alt, Star, And and Not of terms in normal form; the normal form of any term; the derivative by a byte;
 -- the rules' vector of state 0, and the vector after a text
 pub data Form : Type 0 where
   Sequence : Re → Re → Re → Form
   Choice : Re → Re → Re → Form
   Repeat : Re → Re → Form
+  Meet : Re → Re → Re → Form
+  Turn : Re → Re → Form
   Whole : Re → Re → Form
   Derived : ℕ → Re → Re → Form
   First : List Re → List Re → Form
@@ -25,6 +27,8 @@ abbrev pub answered : Form → List Re
 answered (Sequence x y r) = cat x y ∷ []
 answered (Choice x y r) = alt x y ∷ []
 answered (Repeat x r) = star x ∷ []
+answered (Meet x y r) = both x y ∷ []
+answered (Turn x r) = negated x ∷ []
 answered (Whole x r) = normal x ∷ []
 answered (Derived c x r) = deriv c x ∷ []
 answered (First rs vector) = start rs
@@ -35,6 +39,8 @@ abbrev pub stated : Form → List Re
 stated (Sequence x y r) = r ∷ []
 stated (Choice x y r) = r ∷ []
 stated (Repeat x r) = r ∷ []
+stated (Meet x y r) = r ∷ []
+stated (Turn x r) = r ∷ []
 stated (Whole x r) = r ∷ []
 stated (Derived c x r) = r ∷ []
 stated (First rs vector) = vector
@@ -133,6 +139,44 @@ forms =
     Repeat (Alt a b) (Star (Alt a b)) ∷
     Repeat (Alt Empty a) (Star (Alt Empty a)) ∷
     Repeat (Alt a (Star b)) (Star (Alt a (Star b))) ∷
+    -- And: members gathered from both sides, sorted, kept once, and nested to the right
+    Meet a b (And a b) ∷
+    Meet b a (And a b) ∷
+    Meet (And a b) c (And a (And b c)) ∷
+    Meet c (And a b) (And a (And b c)) ∷
+    Meet (And b d) (And a c) (And a (And b (And c d))) ∷
+    Meet (And a c) (And b c) (And a (And b c)) ∷
+    Meet (Not a) (Star a) (And (Star a) (Not a)) ∷
+    Meet (Alt a b) (Not (Alt a b)) (And (Alt a b) (Not (Alt a b))) ∷
+    -- one member is itself; Nothing if a member is Nothing
+    Meet a a a ∷
+    Meet (And a b) (And a b) (And a b) ∷
+    Meet a Nothing Nothing ∷
+    Meet Nothing (And a b) Nothing ∷
+    Meet Nothing Nothing Nothing ∷
+    -- and no more than that: Empty, the Not of Nothing, a term and its Not stay; an And in a choice and a choice in an And too
+    Meet Empty a (And Empty a) ∷
+    Meet a (Not Nothing) (And a (Not Nothing)) ∷
+    Meet a (Not a) (And a (Not a)) ∷
+    Meet (Alt a b) a (And a (Alt a b)) ∷
+    Choice (Not Nothing) a (Alt a (Not Nothing)) ∷
+    Choice (And a b) (And a c) (Alt (And a b) (And a c)) ∷
+    -- both sort after Star, And first
+    Choice (Not a) (Alt (And a b) (Star a)) (Alt (Star a) (Alt (And a b) (Not a))) ∷
+    Choice (And b c) (And a d) (Alt (And a d) (And b c)) ∷
+    Choice (And a d) (And a c) (Alt (And a c) (And a d)) ∷
+    Choice (Not b) (Not a) (Alt (Not a) (Not b)) ∷
+    -- Not of Not is the inner term; of anything else its Not
+    Turn (Not a) a ∷
+    Turn a (Not a) ∷
+    Turn Nothing (Not Nothing) ∷
+    Turn Empty (Not Empty) ∷
+    Turn (And a (Not b)) (Not (And a (Not b))) ∷
+    Turn (Alt (Not a) (Not b)) (Not (Alt (Not a) (Not b))) ∷
+    -- in a sequence and in a repetition they are terms like any other
+    Sequence (And a b) (Not c) (Cat (And a b) (Not c)) ∷
+    Repeat (Not a) (Star (Not a)) ∷
+    Repeat (And a b) (Star (And a b)) ∷
     -- Either x is the Alt of its two one-byte Ranges: the capital stands first
     Whole (Alt (byte 97) (byte 65)) (Alt (byte 65) (byte 97)) ∷
     -- built upward: the parts first
@@ -153,6 +197,13 @@ forms =
     Whole (Star (Cat Empty (Star a))) (Star a) ∷
     Whole (Star (Alt Nothing Empty)) Empty ∷
     Whole (Star (Cat (Cat a b) c)) (Star (Cat a (Cat b c))) ∷
+    Whole (And (And c b) (And b a)) (And a (And b c)) ∷
+    Whole (And a (And (Cat b Nothing) c)) Nothing ∷
+    Whole (And (Alt b a) (Alt a b)) (Alt a b) ∷
+    Whole (Not (Not (Not a))) (Not a) ∷
+    Whole (Not (Cat a Nothing)) (Not Nothing) ∷
+    Whole (Alt a (Not (Not (Alt b a)))) (Alt a b) ∷
+    Whole (Star (Not (Not (Star a)))) (Star a) ∷
     -- state 0 is the rules in normal form, rule for rule; W's stand in it already
     First (Cat (Cat a b) c ∷ Star (Star a) ∷ Cat a Nothing ∷ Alt b a ∷ Alt b a ∷ []) (Cat a (Cat b c) ∷ Star a ∷ Nothing ∷ Alt a b ∷ Alt a b ∷ []) ∷
     First W W ∷
@@ -191,6 +242,20 @@ derivatives =
     Derived 97 (Cat (Star a) (Star a)) (Alt (Cat (Star a) (Star a)) (Star a)) ∷
     Derived 98 (Cat (Alt Empty a) (Cat b c)) c ∷
     Derived 97 (Cat (Alt Empty a) (Cat (Range 97 98) c)) (Alt c (Cat (Range 97 98) c)) ∷
+    -- And and Not: through both
+    Derived 97 (And (Cat a b) (Cat a c)) (And b c) ∷
+    Derived 97 (And (Cat a b) (Cat b c)) Nothing ∷
+    Derived 97 (And a (Not a)) (And Empty (Not Empty)) ∷
+    Derived 98 (And a (Not a)) Nothing ∷
+    Derived 97 (Not a) (Not Empty) ∷
+    Derived 98 (Not a) (Not Nothing) ∷
+    Derived 97 (Not Nothing) (Not Nothing) ∷
+    Derived 97 (Not (Cat a (Not b))) b ∷
+    -- what a Not or an And matches of the empty text decides whether what follows is reached
+    Derived 98 (Cat (Not a) b) (Alt Empty (Cat (Not Nothing) b)) ∷
+    Derived 98 (Cat (Not Empty) b) (Cat (Not Nothing) b) ∷
+    Derived 98 (Cat (And (Star a) (Star b)) b) Empty ∷
+    Derived 98 (Cat (And a (Star a)) b) Nothing ∷
     -- each result in normal form at once
     Derived 97 (Cat (Star (Cat a (Cat b c))) d) (Cat b (Cat c (Cat (Star (Cat a (Cat b c))) d))) ∷
     -- the vector after a text, byte by byte: W after nothing, t, to, tom and 7

@@ -3,14 +3,14 @@
 use mathlib.Core.Path.{_≡_, refl}
 use mathlib.Core.List.{map}
 use Rattle.meaning.specs.Order.{order}
-use Rattle.meaning.specs.Normal.{chain, cat, gathered, kept, placed, sorted, nested, alt, star, normal}
+use Rattle.meaning.specs.Normal.{chain, cat, gathered, kept, spoilt, placed, sorted, nested, alt, both, star, negated, normal}
 use Rattle.meaning.specs.Derive.{nullable, deriv}
 use Rattle.meaning.specs.Forms.{answered, stated, forms, derivatives}
 
 pub forms-hold : map answered forms ≡ map stated forms
-unfolding forms order chain cat gathered kept placed sorted nested alt star normal
+unfolding forms order chain cat gathered kept spoilt placed sorted nested alt both star negated normal
 forms-hold = refl
 
 pub derivatives-hold : map answered derivatives ≡ map stated derivatives
-unfolding derivatives order chain cat gathered kept placed sorted nested alt star normal nullable deriv
+unfolding derivatives order chain cat gathered kept spoilt placed sorted nested alt both star negated normal nullable deriv
 derivatives-hold = refl

@@ -6,10 +6,10 @@ use mathlib.Core.Path.{_≡_, refl, ap, _∙_}
 use mathlib.Core.Bool.{false}
 use mathlib.Core.List.{List, [], _∷_, _++_, append-nil}
 use Rattle.meaning.specs.Re.{Re, parts, size, sizes, isNothing}
-use Rattle.meaning.specs.Re.Re.{Nothing, Empty, Range, Cat, Alt, Star}
+use Rattle.meaning.specs.Re.Re.{Nothing, Empty, Range, Cat, Alt, Star, And, Not}
 use Rattle.meaning.specs.PartLaws.{All, by-parts, upward-parts, size-parts}
 use Rattle.meaning.specs.declared.Join.{Join}
-use Rattle.meaning.specs.declared.Join.the-variants.{Then, Or}
+use Rattle.meaning.specs.declared.Join.the-variants.{Then, Or, Both}
 use Rattle.meaning.specs.Tests.{clash}
 use Rattle.meaning.specs.Normal.{joined, joins, chain, gathered, nested}
 
@@ -21,10 +21,17 @@ pub data View (j : Join) : Re → Type 0 where
 cat-view : (j : Join) (a b : Re) → View j (Cat a b)
 cat-view Then a b = both a b
 cat-view Or a b = alone refl
+cat-view Both a b = alone refl
 
 alt-view : (j : Join) (a b : Re) → View j (Alt a b)
 alt-view Then a b = alone refl
 alt-view Or a b = both a b
+alt-view Both a b = alone refl
+
+and-view : (j : Join) (a b : Re) → View j (And a b)
+and-view Then a b = alone refl
+and-view Or a b = alone refl
+and-view Both a b = both a b
 
 pub view : (j : Join) (r : Re) → View j r
 view j Nothing = alone refl
@@ -33,15 +40,19 @@ view j (Range lo hi) = alone refl
 view j (Cat a b) = cat-view j a b
 view j (Alt a b) = alt-view j a b
 view j (Star a) = alone refl
+view j (And a b) = and-view j a b
+view j (Not a) = alone refl
 
 -- what is joined has these parts, and is not Nothing
 parts-joined : (j : Join) (a b : Re) → parts (joined j a b) ≡ a ∷ b ∷ []
 parts-joined Then a b = refl
 parts-joined Or a b = refl
+parts-joined Both a b = refl
 
 pub joined-some : (j : Join) (a b : Re) → isNothing (joined j a b) ≡ false
 joined-some Then a b = refl
 joined-some Or a b = refl
+joined-some Both a b = refl
 
 pub joined-size : (j : Join) (a b : Re) → size (joined j a b) ≡ 1 + size a + size b
 unfolding sizes
@@ -61,6 +72,7 @@ pub gathered-joined : (j : Join) (a b : Re) → gathered j (joined j a b) ≡ ga
 unfolding gathered
 gathered-joined Then a b = ap (λ (xs : List Re). gathered Then a ++ xs) (append-nil (gathered Then b))
 gathered-joined Or a b = ap (λ (xs : List Re). gathered Or a ++ xs) (append-nil (gathered Or b))
+gathered-joined Both a b = ap (λ (xs : List Re). gathered Both a ++ xs) (append-nil (gathered Both b))
 
 pub gathered-alone : (j : Join) (r : Re) → joins j r ≡ false → gathered j r ≡ r ∷ []
 unfolding gathered
@@ -74,7 +86,7 @@ abbrev pub Full : List Re → Type 0
 Full [] = ⊥
 Full (x ∷ xs) = Unit
 
-full-append : (xs ys : List Re) → Full xs → Full (xs ++ ys)
+pub full-append : (xs ys : List Re) → Full xs → Full (xs ++ ys)
 full-append [] ys f = absurd f
 full-append (x ∷ xs) ys f = tt
 
@@ -98,3 +110,5 @@ chain-one (Range lo hi) b e = refl
 chain-one (Cat x y) b e = absurd (clash refl e)
 chain-one (Alt x y) b e = refl
 chain-one (Star x) b e = refl
+chain-one (And x y) b e = refl
+chain-one (Not x) b e = refl

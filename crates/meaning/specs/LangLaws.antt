@@ -1,5 +1,5 @@
 -- Laws of languages, proved once and used of expressions: what stands after a byte, what is neutral, what may be regrouped.
--- No expression occurs here, so a new kind of expression leaves this file alone.
+-- No expression occurs here: a kind of expression more has at most a way more to join languages here, and that what is the same stays the same.
 use Prim.Native.Nat.{ℕ}
 use mathlib.Core.Path.{_≡_, refl, sym, ap, subst, _∙_}
 use mathlib.Core.List.{List, [], _∷_, _++_, append-assoc, append-nil}
@@ -13,6 +13,9 @@ pub cons-nil : {c : ℕ} {w : Text} → c ∷ w ≡ [] → ⊥
 cons-nil e = let z : _≡_ {A = ℕ} 0 1 = cc in omega arith
 
 -- sameness is an equivalence, and both ways to join keep it
+pub same-refl : (P : Lang) → Same P P
+same-refl P w = (λ m. m, λ m. m)
+
 module _ {P Q : Lang} where
   pub same-sym : Same P Q → Same Q P
   same-sym e w = (e w .1, e w .0)
@@ -182,3 +185,12 @@ module _ {P P′ Q Q′ : Lang} where
   pub either-same : Same P P′ → Same Q Q′ → Same (λ w. P w ⊎ Q w) (λ w. P′ w ⊎ Q′ w)
   either-same e f w =
       (elim [ inl m ↦ inl (e w .0 m) | inr m ↦ inr (f w .0 m) ], elim [ inl m ↦ inl (e w .1 m) | inr m ↦ inr (f w .1 m) ])
+
+-- both of two languages, and the texts of none
+module _ {P P′ Q Q′ : Lang} where
+  pub both-same : Same P P′ → Same Q Q′ → Same (λ w. P w × Q w) (λ w. P′ w × Q′ w)
+  both-same e f w = (λ m. (e w .0 (m .0), f w .0 (m .1)), λ m. (e w .1 (m .0), f w .1 (m .1)))
+
+module _ {P Q : Lang} where
+  pub not-same : Same P Q → Same (λ w. P w → ⊥) (λ w. Q w → ⊥)
+  not-same e w = (λ f m. f (e w .1 m), λ f m. f (e w .0 m))

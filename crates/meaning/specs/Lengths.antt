@@ -3,7 +3,7 @@
 use Prim.Native.Nat.{ℕ, zero, suc}
 use mathlib.Core.List.{List, [], _∷_}
 use Rattle.meaning.specs.Re.{Re}
-use Rattle.meaning.specs.Re.Re.{Nothing, Empty, Range, Cat, Alt, Star}
+use Rattle.meaning.specs.Re.Re.{Nothing, Empty, Range, Cat, Alt, Star, And, Not}
 use Rattle.meaning.specs.Normal.{normal}
 use Rattle.meaning.specs.Derive.{deriv}
 use Rattle.meaning.specs.Limited.{Fit, derivFit, normalFit}
@@ -27,7 +27,7 @@ nodes256 = Star nodes255
 
 -- terms whose nodes are counted: one of each kind, one with several kinds in it, and those at the limit
 abbrev pub counted : List Re
-counted = Nothing ∷ Empty ∷ Range 97 122 ∷ Cat a b ∷ Alt a b ∷ Star a ∷ Cat a (Alt b (Star c)) ∷ nodes254 ∷ nodes255 ∷ nodes256 ∷ []
+counted = Nothing ∷ Empty ∷ Range 97 122 ∷ Cat a b ∷ Alt a b ∷ Star a ∷ And a b ∷ Not a ∷ Cat a (Alt b (Star c)) ∷ nodes254 ∷ nodes255 ∷ nodes256 ∷ []
 
 -- a repetition of 129 nodes whose derivative by a has 256, Cat(Da, Star) being 126 + 129 + 1
 abbrev pub growing : Re
@@ -75,6 +75,11 @@ lengths =
     -- Alt of them
     Formed (Alt (links 63 a a) (links 63 b b)) (fits (Alt (links 63 a a) (links 63 b b))) ∷
     Formed (Alt (links 63 a a) (Star (links 63 b b))) (long (Alt (links 63 a a) (Star (links 63 b b)))) ∷
+    -- And of them, and Not of 254 nodes and of 255
+    Formed (And (links 63 a a) (links 63 b b)) (fits (And (links 63 a a) (links 63 b b))) ∷
+    Formed (And (links 63 a a) (Star (links 63 b b))) (long (And (links 63 a a) (Star (links 63 b b)))) ∷
+    Formed (Not nodes254) (fits (Not nodes254)) ∷
+    Formed (Not nodes255) (long (Not nodes255)) ∷
     -- it is the normal form that counts, and not the term: these have 511, 257 and 256 nodes
     Formed (Alt nodes255 nodes255) (fits nodes255) ∷
     Formed (Cat Empty nodes255) (fits nodes255) ∷
@@ -88,6 +93,10 @@ lengths =
     Formed (Star (Cat nodes256 Nothing)) (long Empty) ∷
     Formed (Alt a (Cat nodes256 Nothing)) (long a) ∷
     Formed (Alt (Cat nodes256 Nothing) a) (long a) ∷
+    Formed (And Nothing nodes256) (long Nothing) ∷
+    Formed (And nodes256 Nothing) (long Nothing) ∷
+    Formed (Not (Not nodes254)) (fits nodes254) ∷
+    Formed (Not (Not nodes255)) (long nodes255) ∷
     -- derivatives: Star's, of 255 nodes and of 256
     Derived 97 choosing (fits (links 62 a choosing)) ∷
     Derived 97 growing (long (links 62 a (Cat (Star a) growing))) ∷
@@ -105,6 +114,18 @@ lengths =
     Derived 97 (Alt a (Cat growing Nothing)) (long Empty) ∷
     Derived 97 (Alt (Cat growing Nothing) a) (long Empty) ∷
     Derived 97 (Star (Cat growing Nothing)) (long Nothing) ∷
+    -- both sides of an And are always worked out: a Long part is told, also where the other side is Nothing
+    Derived 97 (And growing b) (long Nothing) ∷
+    Derived 97 (And b growing) (long Nothing) ∷
+    Derived 97 (And (Cat a (links 63 b b)) (Cat a (links 63 c c))) (fits (And (links 63 b b) (links 63 c c))) ∷
+    Derived 97 (And (Cat a (links 63 b b)) (Cat a (Star (links 63 c c)))) (long (And (links 63 b b) (Star (links 63 c c)))) ∷
+    -- Not's
+    Derived 97 (Not (Cat a nodes254)) (fits (Not nodes254)) ∷
+    Derived 97 (Not (Cat a nodes255)) (long (Not nodes255)) ∷
+    Derived 97 (Not (Cat a (Not nodes254))) (fits nodes254) ∷
+    -- also of a part below it that vanishes
+    Derived 97 (Not (Cat a (Not nodes255))) (long nodes255) ∷
+    Derived 97 (Not (And b growing)) (long (Not Nothing)) ∷
     -- Db is worked out only where the first side matches the empty text: elsewhere a Long Db is no refusal
     Derived 97 (Cat (Star b) growing) (long (links 62 a (Cat (Star a) growing))) ∷
     Derived 97 (Cat a growing) (fits growing) ∷

@@ -12,6 +12,7 @@ pub mod Normal
 pub mod JoinLaws
 pub mod Derive
 pub mod Tests
+pub mod PlainMeans
 pub mod NormalMeans
 pub mod NormalShape
 pub mod DeriveMeans

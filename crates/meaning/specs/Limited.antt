@@ -6,8 +6,8 @@ use mathlib.Core.List.{List, [], _∷_, _++_, flatMap}
 use lib.Dec.{leb}
 use Rattle.number.specs.Limits.{treeNodes}
 use Rattle.meaning.specs.Re.{Re, upward, size}
-use Rattle.meaning.specs.Re.Re.{Nothing, Empty, Range, Cat, Alt, Star}
-use Rattle.meaning.specs.Normal.{cat, alt, star, normal}
+use Rattle.meaning.specs.Re.Re.{Nothing, Empty, Range, Cat, Alt, Star, And, Not}
+use Rattle.meaning.specs.Normal.{cat, alt, star, both, negated, normal}
 use Rattle.meaning.specs.Derive.{nullable, deriv}
 
 -- a result, or that one was too long
@@ -47,6 +47,13 @@ derivFit c (Alt a b) = do
 derivFit c (Star a) = do
   da ← derivFit c a
   fit (cat da (Star a))
+derivFit c (And a b) = do
+  da ← derivFit c a
+  db ← derivFit c b
+  fit (both da db)
+derivFit c (Not a) = do
+  da ← derivFit c a
+  fit (negated da)
 
 unfoldable pub normalFit : Re → Fit
 normalFit Nothing = Fits Nothing
@@ -63,6 +70,13 @@ normalFit (Alt a b) = do
 normalFit (Star a) = do
   na ← normalFit a
   fit (star na)
+normalFit (And a b) = do
+  na ← normalFit a
+  nb ← normalFit b
+  fit (both na nb)
+normalFit (Not a) = do
+  na ← normalFit a
+  fit (negated na)
 
 -- the results on the way to a derivative: its own, and those of the parts that are worked out for it; of a Cat whose second side is worked
 -- out, also the left side of the choice that comes of it
@@ -73,6 +87,8 @@ derivResults c (Range lo hi) = deriv c (Range lo hi) ∷ []
 derivResults c (Cat a b) = deriv c (Cat a b) ∷ (derivResults c a ++ cond (nullable a) (cat (deriv c a) b ∷ derivResults c b) [])
 derivResults c (Alt a b) = deriv c (Alt a b) ∷ (derivResults c a ++ derivResults c b)
 derivResults c (Star a) = deriv c (Star a) ∷ derivResults c a
+derivResults c (And a b) = deriv c (And a b) ∷ (derivResults c a ++ derivResults c b)
+derivResults c (Not a) = deriv c (Not a) ∷ derivResults c a
 
 -- the results on the way to a normal form: its own, and those of its parts
 unfoldable pub normalResults : Re → List Re

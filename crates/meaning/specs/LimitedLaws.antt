@@ -10,9 +10,9 @@ use lib.Dec.{leb}
 use borrow.Author.Tests.{leb-false, lt-leb}
 use Rattle.number.specs.Limits.{treeNodes}
 use Rattle.meaning.specs.Re.{Re, size}
-use Rattle.meaning.specs.Re.Re.{Nothing, Empty, Range, Cat, Alt, Star}
+use Rattle.meaning.specs.Re.Re.{Nothing, Empty, Range, Cat, Alt, Star, And, Not}
 use Rattle.meaning.specs.PartLaws.{upward-parts}
-use Rattle.meaning.specs.Normal.{cat, alt, star, normal}
+use Rattle.meaning.specs.Normal.{cat, alt, star, both, negated, normal}
 use Rattle.meaning.specs.Derive.{nullable, deriv}
 use Rattle.meaning.specs.Limited.{Fit, _>>=_, short, fit, derivFit, normalFit, derivResults, normalResults, allShort, Over}
 use Rattle.meaning.specs.Limited.Fit.{Long, Fits}
@@ -108,6 +108,8 @@ deriv-fits c (Cat a b) = go (nullable a) refl (deriv-fits c a) (deriv-fits c b)
     go false e p q = rw (e, derivFit, derivResults, deriv) (cat-full (derivResults c a) (deriv c a) b p)
 deriv-fits c (Alt a b) = part-two (derivResults c a) (derivResults c b) (deriv c a) (deriv c b) alt (deriv-fits c a) (deriv-fits c b)
 deriv-fits c (Star a) = part-one (derivResults c a) (deriv c a) (λ x. cat x (Star a)) (deriv-fits c a)
+deriv-fits c (And a b) = part-two (derivResults c a) (derivResults c b) (deriv c a) (deriv c b) both (deriv-fits c a) (deriv-fits c b)
+deriv-fits c (Not a) = part-one (derivResults c a) (deriv c a) negated (deriv-fits c a)
 
 -- the limited normal form is the normal form, if all on the way is short
 pub normal-fits : (r : Re) → normalFit r ≡ allowed (allShort (normalResults r)) (normal r)
@@ -118,6 +120,8 @@ normal-fits (Range lo hi) = refl
 normal-fits (Cat a b) = rw (append-nil (normalResults b)) (part-two (normalResults a) (normalResults b) (normal a) (normal b) cat (normal-fits a) (normal-fits b))
 normal-fits (Alt a b) = rw (append-nil (normalResults b)) (part-two (normalResults a) (normalResults b) (normal a) (normal b) alt (normal-fits a) (normal-fits b))
 normal-fits (Star a) = rw (append-nil (normalResults a)) (part-one (normalResults a) (normal a) star (normal-fits a))
+normal-fits (And a b) = rw (append-nil (normalResults b)) (part-two (normalResults a) (normalResults b) (normal a) (normal b) both (normal-fits a) (normal-fits b))
+normal-fits (Not a) = rw (append-nil (normalResults a)) (part-one (normalResults a) (normal a) negated (normal-fits a))
 
 over : (rs : List Re) → allShort rs ≡ false → Over rs
 unfolding allShort
@@ -177,6 +181,8 @@ deriv-own c (Range lo hi) e = first-short _ _ e
 deriv-own c (Cat a b) e = first-short _ _ e
 deriv-own c (Alt a b) e = first-short _ _ e
 deriv-own c (Star a) e = first-short _ _ e
+deriv-own c (And a b) e = first-short _ _ e
+deriv-own c (Not a) e = first-short _ _ e
 
 normal-own : (r : Re) → allShort (normalResults r) ≡ true → short (normal r) ≡ true
 unfolding normalResults

@@ -1,4 +1,4 @@
--- What alt gives, told without lists: the one term in shape whose members are those of both sides.
+-- What alt and both give, told without lists: the one term in shape whose members are those of both sides.
 -- Two lists that rise and hold the same are one list; gathering, dropping, sorting and nesting keep what is held.
 use Prim.Native.Nat.{ℕ, Ordering, Ordering·lt, Ordering·eq, Ordering·gt}
 use mathlib.Core.Path.{_≡_, refl, sym, ap, subst, _∙_}
@@ -13,12 +13,12 @@ use Rattle.meaning.specs.Order.{order}
 use Rattle.meaning.specs.OrderLaws.{order-self, order-equal, order-trans}
 use Rattle.meaning.specs.declared.Join.{Join}
 use Rattle.meaning.specs.declared.Join.the-variants.{Or}
-use Rattle.meaning.specs.Normal.{gathered, placed, sorted, nested, alt, Before}
-use Rattle.meaning.specs.JoinLaws.{by-members, gathered-alone, gathered-joined}
+use Rattle.meaning.specs.Normal.{joined, gathered, placed, sorted, nested, alt, formed, Before}
+use Rattle.meaning.specs.JoinLaws.{by-members, joined-some, gathered-alone, gathered-joined}
 use Rattle.meaning.specs.NormalShape.{Rising}
 use Rattle.meaning.specs.Shape.{Sorts, InShape, MemberOf, headOf, united}
 use Rattle.meaning.specs.Shape.MemberOf.{itself, from-left, from-right}
-use Rattle.meaning.specs.ShapeLaws.{Member, gathered-head, gathered-members, gathered-rising, nested-gathered, sorted-both, gathered-united, united-some, shape-united, by-sides, shape-alt}
+use Rattle.meaning.specs.ShapeLaws.{Member, gathered-head, gathered-members, gathered-rising, nested-gathered, sorted-both, gathered-united, united-some, shape-united, by-sides, formed-united, shape-formed}
 use Rattle.meaning.specs.Tests.{clash, is-nothing}
 
 -- x stands in a list
@@ -137,8 +137,8 @@ module _ (j : Join) (o : Sorts j) where
   held r s n x = (member-in, λ m. in-member (all-in (Member j) (gathered j r) (gathered-members j o r s n) x m .some) r m)
 
   -- a term in shape is fixed by its members
-  pub one-choice : (r s : Re) → InShape r → InShape s → ((x : Re) → MemberOf j x r ↔ MemberOf j x s) → r ≡ s
-  one-choice r s p q f = go (isNothing r) (isNothing s) refl refl
+  pub one-term : (r s : Re) → InShape r → InShape s → ((x : Re) → MemberOf j x r ↔ MemberOf j x s) → r ≡ s
+  one-term r s p q f = go (isNothing r) (isNothing s) refl refl
     where
       a-member : (t : Re) → InShape t → isNothing t ≡ false → MemberOf j (headOf j t) t
       a-member t u n = held t u n (headOf j t) .1 (subst (In (headOf j t)) (sym (gathered-head j t)) (inl refl))
@@ -171,18 +171,43 @@ module _ (j : Join) (o : Sorts j) where
         ])))),
       )
 
--- what alt gives has the members of both sides
-alt-held : (a b : Re) → InShape a → InShape b → (x : Re) → MemberOf Or x (alt a b) ↔ (MemberOf Or x a ⊎ MemberOf Or x b)
-alt-held a b s t x =
-    by-sides (λ r. MemberOf Or x r ↔ (MemberOf Or x a ⊎ MemberOf Or x b)) a b s t
-    (λ e. (inr, elim [ inl m ↦ absurd (no-member a e m) | inr m ↦ m ]))
-    (λ e. (inl, elim [ inl m ↦ m | inr m ↦ absurd (no-member b e m) ]))
-    (λ m n. united-held Or tt a b s t m n x)
+-- so where neither side is Nothing, what is formed is the one term in shape that has the members of both sides
+module _ (j : Join) (o : Sorts j) (a b : Re) (s : InShape a) (t : InShape b) where
+  abbrev Holds : Re → Type 0
+  Holds r = (x : Re) → MemberOf j x r ↔ (MemberOf j x a ⊎ MemberOf j x b)
 
--- so alt gives the one term in shape that has them
+  only : (r : Re) → Holds (formed j a b) → (InShape r × Holds r) ↔ (r ≡ formed j a b)
+  only r h =
+      let f = shape-formed j o a b s t in (
+        λ p. one-term j o r (formed j a b) (p .0) f (λ x. (λ m. h x .1 (p .1 x .0 m), λ m. p .1 x .1 (h x .0 m))),
+        λ e. rw e (f, h),
+      )
+
+  pub formed-is : isNothing a ≡ false → isNothing b ≡ false → (r : Re) → (InShape r × Holds r) ↔ (r ≡ formed j a b)
+  formed-is m n r = only r (rw (formed-united j o a b s t m n) (united-held j o a b s t m n))
+
+-- and a choice is also where a side is Nothing
 pub alt-is : (a b r : Re) → InShape a → InShape b
     → (InShape r × ((x : Re) → MemberOf Or x r ↔ (MemberOf Or x a ⊎ MemberOf Or x b))) ↔ (r ≡ alt a b)
-alt-is a b r s t = (
-  λ p. one-choice Or tt r (alt a b) (p .0) (shape-alt a b s t) (λ x. (λ m. alt-held a b s t x .1 (p .1 x .0 m), λ m. p .1 x .1 (alt-held a b s t x .0 m))),
-  λ e. rw e (shape-alt a b s t, alt-held a b s t),
-)
+alt-is a b r s t =
+    only Or tt a b s t r
+    (λ x. by-sides Or tt a b s t (λ v. MemberOf Or x v ↔ (MemberOf Or x a ⊎ MemberOf Or x b))
+    (λ e. (inr, elim [ inl m ↦ absurd (no-member a e m) | inr m ↦ m ]))
+    (λ e. (inl, elim [ inl m ↦ m | inr m ↦ absurd (no-member b e m) ]))
+    (λ m n. united-held Or tt a b s t m n x))
+
+-- the members of what is joined, wherever they stand: none is Nothing, and each is below the next
+module _ (j : Join) (o : Sorts j) (a b : Re) (s : InShape (joined j a b)) where
+  pub member-some-at : (front back : List Re) (x : Re) → gathered j (joined j a b) ≡ front ++ (x ∷ back) → isNothing x ≡ false
+  member-some-at front back x e = at front (rw e at (gathered-members j o (joined j a b) s (joined-some j a b)))
+    where
+      at : (xs : List Re) → All (Member j) (xs ++ (x ∷ back)) → isNothing x ≡ false
+      at [] m = m .0 .some
+      at (y ∷ ys) m = at ys (m .1)
+
+  pub members-below : (front back : List Re) (x y : Re) → gathered j (joined j a b) ≡ front ++ (x ∷ (y ∷ back)) → order x y ≡ Ordering·lt
+  members-below front back x y e = at front (rw e at (gathered-rising j o (joined j a b) s))
+    where
+      at : (xs : List Re) → Rising (xs ++ (x ∷ (y ∷ back))) → order x y ≡ Ordering·lt
+      at [] r = r .0
+      at (z ∷ zs) r = at zs (r .1)

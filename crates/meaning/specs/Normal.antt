@@ -1,28 +1,31 @@
--- Normal form, as document 01 words it: cat, alt and star join terms in normal form, normal builds a term upward.
+-- Normal form, as documents 01 and 02 (K6) word it: cat, alt, star, both and negated join terms in normal form, normal builds a term upward.
 -- NormalMeans proves that none of them changes what is matched.
 use mathlib.Core.Path.{_≡_}
 use mathlib.Core.Bool.{Bool, true, false, cond, _||_}
 use mathlib.Core.List.{List, [], _∷_, _++_, flatMap}
 use Prim.Native.Nat.{Ordering·lt, Ordering·eq, Ordering·gt}
 use Rattle.meaning.specs.Re.{Re, upward, isNothing, isEmpty}
-use Rattle.meaning.specs.Re.Re.{Nothing, Empty, Range, Cat, Alt, Star}
+use Rattle.meaning.specs.Re.Re.{Nothing, Empty, Range, Cat, Alt, Star, And, Not}
 use Rattle.meaning.specs.Order.{order}
 use Rattle.meaning.specs.declared.Join.{Join}
-use Rattle.meaning.specs.declared.Join.the-variants.{Then, Or}
+use Rattle.meaning.specs.declared.Join.the-variants.{Then, Or, Both}
 
--- two terms joined: one after the other, or as a choice
+-- two terms joined: one after the other, as a choice, or both at once
 abbrev pub joined : Join → Re → Re → Re
 joined Then a b = Cat a b
 joined Or a b = Alt a b
+joined Both a b = And a b
 
--- whether a term is joined so: a Cat is one after the other, an Alt as a choice
+-- whether a term is joined so: a Cat is one after the other, an Alt as a choice, an And both at once
 abbrev pub joins : Join → Re → Bool
 joins j Nothing = false
 joins j Empty = false
 joins j (Range lo hi) = false
-joins j (Cat a b) = elim j [ Then ↦ true | Or ↦ false ]
-joins j (Alt a b) = elim j [ Then ↦ false | Or ↦ true ]
+joins j (Cat a b) = elim j [ Then ↦ true | Or ↦ false | Both ↦ false ]
+joins j (Alt a b) = elim j [ Then ↦ false | Or ↦ true | Both ↦ false ]
 joins j (Star a) = false
+joins j (And a b) = elim j [ Then ↦ false | Or ↦ false | Both ↦ true ]
+joins j (Not a) = false
 
 -- Cat(Cat(x,y),z) is Cat(x,Cat(y,z))
 unfoldable pub chain : Re → Re → Re
@@ -32,6 +35,8 @@ chain (Range lo hi) z = Cat (Range lo hi) z
 chain (Cat x y) z = Cat x (chain y z)
 chain (Alt x y) z = Cat (Alt x y) z
 chain (Star x) z = Cat (Star x) z
+chain (And x y) z = Cat (And x y) z
+chain (Not x) z = Cat (Not x) z
 
 -- Nothing on either side gives Nothing; Empty on a side gives the other side
 unfoldable pub cat : Re → Re → Re
@@ -46,10 +51,15 @@ unfoldable pub gathered : Join → Re → List Re
 unfolding upward flatMap
 gathered j = upward (λ r ms. cond (joins j r) (flatMap (λ m. m) ms) (r ∷ []))
 
--- Nothing dropped
+-- a choice: Nothing dropped
 unfoldable pub kept : List Re → List Re
 kept [] = []
 kept (x ∷ xs) = cond (isNothing x) (kept xs) (x ∷ kept xs)
+
+-- both at once: Nothing among them spoils all
+unfoldable pub spoilt : List Re → Bool
+spoilt [] = false
+spoilt (x ∷ xs) = isNothing x || spoilt xs
 
 -- a member put in its place, or not at all where an equal one stands there
 unfoldable pub placed : Re → List Re → List Re
@@ -70,6 +80,16 @@ nested j (x ∷ y ∷ ys) = joined j x (nested j (y ∷ ys))
 unfoldable pub alt : Re → Re → Re
 alt a b = nested Or (sorted (kept (gathered Or a ++ gathered Or b)))
 
+-- And: gathered, sorted and kept once like Alt; Nothing if a member is Nothing
+unfoldable pub both : Re → Re → Re
+both a b = cond (spoilt (gathered Both a ++ gathered Both b)) Nothing (nested Both (sorted (gathered Both a ++ gathered Both b)))
+
+-- two terms in normal form joined so, in normal form
+abbrev pub formed : Join → Re → Re → Re
+formed Then a b = cat a b
+formed Or a b = alt a b
+formed Both a b = both a b
+
 -- Star of Nothing or Empty is Empty; Star of a Star is that Star
 unfoldable pub star : Re → Re
 star Nothing = Empty
@@ -78,6 +98,19 @@ star (Range lo hi) = Star (Range lo hi)
 star (Cat a b) = Star (Cat a b)
 star (Alt a b) = Star (Alt a b)
 star (Star a) = Star a
+star (And a b) = Star (And a b)
+star (Not a) = Star (Not a)
+
+-- Not of Not is the inner term
+unfoldable pub negated : Re → Re
+negated Nothing = Not Nothing
+negated Empty = Not Empty
+negated (Range lo hi) = Not (Range lo hi)
+negated (Cat a b) = Not (Cat a b)
+negated (Alt a b) = Not (Alt a b)
+negated (Star a) = Not (Star a)
+negated (And a b) = Not (And a b)
+negated (Not a) = a
 
 -- the normal form, built upward
 unfoldable pub normal : Re → Re
@@ -87,6 +120,8 @@ normal (Range lo hi) = Range lo hi
 normal (Cat a b) = cat (normal a) (normal b)
 normal (Alt a b) = alt (normal a) (normal b)
 normal (Star a) = star (normal a)
+normal (And a b) = both (normal a) (normal b)
+normal (Not a) = negated (normal a)
 
 -- x stands before the first of a list, if there is one
 abbrev pub Before : Re → List Re → Type 0

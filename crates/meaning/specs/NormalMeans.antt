@@ -1,4 +1,4 @@
--- Normal form keeps meaning: cat, alt and star match what Cat, Alt and Star match, and so normal matches what the term matches.
+-- Normal form keeps meaning: cat, alt, star, both and negated match what Cat, Alt, Star, And and Not match, and so normal matches what the term matches.
 -- Each law is a law of languages (LangLaws), put to use at the branch that the definition takes.
 use Prim.Native.Nat.{Ordering, Ordering·lt, Ordering·eq, Ordering·gt}
 use mathlib.Core.Path.{_≡_, refl}
@@ -6,21 +6,20 @@ use mathlib.Core.Bool.{true, _||_}
 use mathlib.Core.List.{List, [], _∷_, _++_}
 use mathlib.Core.Logic.{_⊎_, inl, inr}
 use Rattle.meaning.specs.Re.{Re, isNothing, isEmpty}
-use Rattle.meaning.specs.Re.Re.{Nothing, Empty, Range, Cat, Alt, Star}
+use Rattle.meaning.specs.Re.Re.{Nothing, Empty, Range, Cat, Alt, Star, And, Not}
 use Rattle.meaning.specs.Lang.{Lang, Same, Then, Many}
-use Rattle.meaning.specs.LangLaws.{same-sym, same-trans, then-same, many-same, none-then, then-none, empty-then, then-only, then-assoc, many-empty, many-none, many-many, None, either-same}
+use Rattle.meaning.specs.LangLaws.{same-refl, same-sym, same-trans, then-same, many-same, none-then, then-none, empty-then, then-only, then-assoc, many-empty, many-none, many-many, None, either-same, both-same, not-same}
 use Rattle.meaning.specs.Means.{Matches}
 use Rattle.meaning.specs.Order.{order}
 use Rattle.meaning.specs.OrderLaws.{order-equal}
 use Rattle.meaning.specs.declared.Join.{Join}
-use Rattle.meaning.specs.declared.Join.the-variants.{Then as Join·Then, Or}
-use Rattle.meaning.specs.JoinLaws.{by-members, gathered-alone, gathered-joined, Full, chain-one}
-use Rattle.meaning.specs.Normal.{joined, chain, cat, gathered, kept, placed, sorted, nested, alt, star, normal}
+use Rattle.meaning.specs.declared.Join.the-variants.{Then as Join·Then, Or, Both}
+use Rattle.meaning.specs.JoinLaws.{by-members, gathered-alone, gathered-joined, Full, full-append, gathered-full, chain-one}
+use Rattle.meaning.specs.Normal.{joined, chain, cat, gathered, kept, placed, sorted, spoilt, nested, alt, star, both, negated, normal}
+use Rattle.meaning.specs.PlainMeans.{decide}
 use Rattle.number.specs.Branch.{by-cond}
-use Rattle.meaning.specs.Tests.{or-true, is-nothing, is-empty}
-
-pub same-refl : (P : Lang) → Same P P
-same-refl P w = (λ m. m, λ m. m)
+use Rattle.meaning.specs.NormalShape.{sorted-full}
+use Rattle.meaning.specs.Tests.{clash, or-true, is-nothing, is-empty}
 
 -- Cat
 chain-means : (a b : Re) → Same (Matches (chain a b)) (Then (Matches a) (Matches b))
@@ -142,6 +141,50 @@ alt-means a b =
     go [] = same-refl _
     go (x ∷ xs) = nested-means either (x ∷ xs) tt
 
+-- And
+abbrev every : Gathers Both
+every = record {
+  op = λ P Q w. P w × Q w;
+  none = λ w. Unit;
+  means = λ a b. same-refl _;
+  same = both-same;
+  regrouped = λ P Q R w. (λ m. (m .0 .0, (m .0 .1, m .1)), λ m. ((m .0, m .1 .0), m .1 .1));
+  swapped = λ P Q w. (λ m. (m .1, m .0), λ m. (m .1, m .0));
+  twice = λ P w. (λ m. m .0, λ m. (m, m));
+  alone = λ P w. (λ m. m .0, λ m. (m, tt));
+}
+
+spoilt-means : (xs : List Re) → spoilt xs ≡ true → Same None (Together every xs)
+unfolding spoilt
+spoilt-means [] e = absurd (clash e refl)
+spoilt-means (x ∷ xs) e = λ w. (
+  λ m. absurd m,
+  λ m. elim (or-true (isNothing x) (spoilt xs) e) [
+    | inl d ↦ rw (is-nothing x d) at (m .0)
+    | inr d ↦ spoilt-means xs d w .1 (m .1)
+  ],
+)
+
+pub both-means : (a b : Re) → Same (Matches (both a b)) (λ w. Matches a w × Matches b w)
+unfolding both
+both-means a b =
+    let all = gathered Both a ++ gathered Both b in
+    same-trans (by-cond (λ (r : Re). Same (Matches r) (Together every all)) (spoilt all) (spoilt-means all)
+    (λ _. same-trans (nested-means every (sorted all) (sorted-full all (full-append (gathered Both a) (gathered Both b) (gathered-full Both a)))) (sorted-means every all)))
+    (same-trans (append-means every (gathered Both a) (gathered Both b)) (both-same (gathered-means every a) (gathered-means every b)))
+
+-- Not: that Not of Not goes needs that matching is decidable
+pub negated-means : (a : Re) → Same (Matches (negated a)) (λ w. Matches a w → ⊥)
+unfolding negated
+negated-means Nothing = same-refl _
+negated-means Empty = same-refl _
+negated-means (Range lo hi) = same-refl _
+negated-means (Cat a b) = same-refl _
+negated-means (Alt a b) = same-refl _
+negated-means (Star a) = same-refl _
+negated-means (And a b) = same-refl _
+negated-means (Not a) = λ w. (λ m f. f m, λ f. elim (decide a w) [ yes m ↦ m | no g ↦ absurd (f g) ])
+
 -- Star
 pub star-means : (a : Re) → Same (Matches (star a)) (Many (Matches a))
 unfolding star
@@ -151,6 +194,8 @@ star-means (Range lo hi) = same-refl _
 star-means (Cat a b) = same-refl _
 star-means (Alt a b) = same-refl _
 star-means (Star a) = same-sym many-many
+star-means (And a b) = same-refl _
+star-means (Not a) = same-refl _
 
 -- the whole
 pub normal-means : (r : Re) → Same (Matches (normal r)) (Matches r)
@@ -161,3 +206,5 @@ normal-means (Range lo hi) = same-refl _
 normal-means (Cat a b) = same-trans (cat-means (normal a) (normal b)) (then-same (normal-means a) (normal-means b))
 normal-means (Alt a b) = same-trans (alt-means (normal a) (normal b)) (either-same (normal-means a) (normal-means b))
 normal-means (Star a) = same-trans (star-means (normal a)) (many-same (normal-means a))
+normal-means (And a b) = same-trans (both-means (normal a) (normal b)) (both-same (normal-means a) (normal-means b))
+normal-means (Not a) = same-trans (negated-means (normal a)) (not-same (normal-means a))

@@ -1,5 +1,5 @@
--- The shape of a choice in normal form: its members rise strictly in the order of terms, so each stands there once.
--- Meaning alone would let a choice keep its members unsorted or doubled; this does not.
+-- Sorted members rise strictly in the order of terms, so each stands there once.
+-- Meaning alone would let a choice or an And keep its members unsorted or doubled; this does not.
 use Prim.Native.Nat.{Ordering, Ordering·lt, Ordering·eq, Ordering·gt}
 use mathlib.Core.Path.{_≡_, refl, ap, _∙_}
 use mathlib.Core.List.{List, [], _∷_}
@@ -7,6 +7,7 @@ use Rattle.meaning.specs.Re.{Re}
 use Rattle.meaning.specs.Order.{order, turned}
 use Rattle.meaning.specs.OrderLaws.{order-turned}
 use Rattle.meaning.specs.Normal.{placed, sorted, Before}
+use Rattle.meaning.specs.JoinLaws.{Full}
 
 -- each stands before the next
 abbrev pub Rising : List Re → Type 0
@@ -38,3 +39,19 @@ pub sorted-rising : (xs : List Re) → Rising (sorted xs)
 unfolding sorted
 sorted-rising [] = tt
 sorted-rising (x ∷ xs) = placed-rising x (sorted xs) (sorted-rising xs)
+
+-- and no member is lost to the last
+placed-full : (x : Re) (ys : List Re) → Full (placed x ys)
+unfolding placed
+placed-full x [] = tt
+placed-full x (y ∷ ys) = go (order x y) refl
+  where
+    go : (o : Ordering) → order x y ≡ o → Full (placed x (y ∷ ys))
+    go Ordering·lt e = rw (e, placed) tt
+    go Ordering·eq e = rw (e, placed) tt
+    go Ordering·gt e = rw (e, placed) tt
+
+pub sorted-full : (xs : List Re) → Full xs → Full (sorted xs)
+unfolding sorted
+sorted-full [] f = absurd f
+sorted-full (x ∷ xs) f = placed-full x (sorted xs)

@@ -1,9 +1,9 @@
--- The order of terms: Nothing, Empty, Range, Cat, Alt, Star; within a kind, parts from left to right, lo before hi.
+-- The order of terms: Nothing, Empty, Range, Cat, Alt, Star, And, Not; within a kind, parts from left to right, lo before hi.
 -- That it is a total order whose "equal" is equality is proved in OrderLaws.
 use Prim.Native.Nat.{ℕ, compare, Ordering, Ordering·lt, Ordering·eq, Ordering·gt}
 use mathlib.Core.List.{List, [], _∷_, map}
 use Rattle.meaning.specs.Re.{Re, bounds, parts, upward}
-use Rattle.meaning.specs.Re.Re.{Nothing, Empty, Range, Cat, Alt, Star}
+use Rattle.meaning.specs.Re.Re.{Nothing, Empty, Range, Cat, Alt, Star, And, Not}
 
 -- the place of its kind in the order
 abbrev pub rank : Re → ℕ
@@ -13,6 +13,8 @@ rank (Range lo hi) = 2
 rank (Cat a b) = 3
 rank (Alt a b) = 4
 rank (Star a) = 5
+rank (And a b) = 6
+rank (Not a) = 7
 
 -- the first comparison decides, and where it finds no difference, the second
 abbrev pub also : Ordering → Ordering → Ordering

@@ -8,7 +8,7 @@ use native.Mathlib.Omega.{arith}
 use lib.Dec.{eqb}
 use lib.ListN.{getD}
 use Rattle.meaning.specs.Re.{Re, bounds, parts}
-use Rattle.meaning.specs.Re.Re.{Nothing, Empty, Range, Cat, Alt, Star}
+use Rattle.meaning.specs.Re.Re.{Nothing, Empty, Range, Cat, Alt, Star, And, Not}
 use Rattle.meaning.specs.PartLaws.{All, all, by-parts, upward-parts}
 use Rattle.meaning.specs.Order.{rank, also, inTurn, decided, order, turned}
 
@@ -168,7 +168,9 @@ rebuilt k ns rs =
     (cond (eqb k 2) (Range (getD ns 0 0) (getD ns 1 0))
     (cond (eqb k 3) (Cat (getD rs 0 Nothing) (getD rs 1 Nothing))
     (cond (eqb k 4) (Alt (getD rs 0 Nothing) (getD rs 1 Nothing))
-    (Star (getD rs 0 Nothing))))))
+    (cond (eqb k 5) (Star (getD rs 0 Nothing))
+    (cond (eqb k 6) (And (getD rs 0 Nothing) (getD rs 1 Nothing))
+    (Not (getD rs 0 Nothing))))))))
 
 rebuild : (x : Re) → x ≡ rebuilt (rank x) (bounds x) (parts x)
 unfolding rebuilt
@@ -178,6 +180,8 @@ rebuild (Range lo hi) = refl
 rebuild (Cat a b) = refl
 rebuild (Alt a b) = refl
 rebuild (Star a) = refl
+rebuild (And a b) = refl
+rebuild (Not a) = refl
 
 same-parts : (x y : Re) → rank x ≡ rank y → bounds x ≡ bounds y → parts x ≡ parts y → x ≡ y
 same-parts x y k b p = rebuild x ∙ rw (k, b, p) (sym (rebuild y))
@@ -198,6 +202,8 @@ no-bounds (Range lo hi) e = absurd (let z : _≡_ {A = ℕ} 0 1 = cc in omega ar
 no-bounds (Cat a b) e = refl
 no-bounds (Alt a b) e = refl
 no-bounds (Star a) e = refl
+no-bounds (And a b) e = refl
+no-bounds (Not a) e = refl
 
 order-inner : (x y : Re) {a b : Re} {rs ss : List Re} → rank x ≡ rank y → parts x ≡ a ∷ rs → parts y ≡ b ∷ ss
     → order x y ≡ also (order a b) (rows order rs ss)

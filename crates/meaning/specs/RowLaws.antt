@@ -5,7 +5,7 @@ use mathlib.Core.Path.{_≡_, refl}
 use mathlib.Core.Logic.{_↔_, _⊎_, inl, inr}
 use native.Mathlib.Omega.{arith}
 use Rattle.meaning.specs.Re.{Re}
-use Rattle.meaning.specs.Re.Re.{Nothing, Empty, Range, Cat, Alt, Star}
+use Rattle.meaning.specs.Re.Re.{Nothing, Empty, Range, Cat, Alt, Star, And, Not}
 use Rattle.meaning.specs.Order.{also, order}
 use Rattle.meaning.specs.OrderLaws.{compared, compare-is, compare-lt, compare-eq, also-eq, order-no-parts, order-one-part, order-two-parts, order-self, order-equal}
 use Rattle.meaning.specs.OrderLaws.Compared.{less, equal}
@@ -43,6 +43,14 @@ pub alt-star : (a b c : Re) → order (Alt a b) (Star c) ≡ Ordering·lt
 unfolding order
 alt-star a b c = refl
 
+pub star-and : (a b c : Re) → order (Star a) (And b c) ≡ Ordering·lt
+unfolding order
+star-and a b c = refl
+
+pub and-not : (a b c : Re) → order (And a b) (Not c) ≡ Ordering·lt
+unfolding order
+and-not a b c = refl
+
 -- the parts
 pub ranges-below : (lo hi lo′ hi′ : ℕ) → (order (Range lo hi) (Range lo′ hi′) ≡ Ordering·lt) ↔ ((lo < lo′) ⊎ ((lo ≡ lo′) × (hi < hi′)))
 ranges-below lo hi lo′ hi′ =
@@ -77,3 +85,9 @@ alts-below a b c d = rw (order-two-parts (Alt a b) (Alt c d) refl refl refl) (pa
 
 pub stars-below : (a b : Re) → (order (Star a) (Star b) ≡ Ordering·lt) ↔ (order a b ≡ Ordering·lt)
 stars-below a b = rw (order-one-part (Star a) (Star b) refl refl refl) (λ e. e, λ e. e)
+
+pub ands-below : (a b c d : Re) → (order (And a b) (And c d) ≡ Ordering·lt) ↔ PairBelow a b c d
+ands-below a b c d = rw (order-two-parts (And a b) (And c d) refl refl refl) (parts-below a b c d)
+
+pub nots-below : (a b : Re) → (order (Not a) (Not b) ≡ Ordering·lt) ↔ (order a b ≡ Ordering·lt)
+nots-below a b = rw (order-one-part (Not a) (Not b) refl refl refl) (λ e. e, λ e. e)

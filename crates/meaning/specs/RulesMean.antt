@@ -14,7 +14,8 @@ use Rattle.meaning.specs.Means.{Matches}
 use Rattle.meaning.specs.Normal.{normal}
 use Rattle.meaning.specs.NormalMeans.{normal-means}
 use Rattle.meaning.specs.Derive.{nullable, deriv}
-use Rattle.meaning.specs.DeriveMeans.{nullable-means, deriv-means}
+use Rattle.meaning.specs.PlainMeans.{nullable-means}
+use Rattle.meaning.specs.DeriveMeans.{deriv-means}
 use Rattle.meaning.specs.Rules.{rule, Names, labelFrom, label, deriveAll, deriveBy, start, labelAfter}
 use Rattle.meaning.specs.Tests.{clash}
 

@@ -6,7 +6,7 @@ use mathlib.Core.List.{List, [], _∷_}
 use lib.Dec.{T, eqb}
 use Rattle.number.specs.Numbers.{writeNumber}
 use Rattle.meaning.specs.Order.{order}
-use Rattle.meaning.specs.Normal.{chain, cat, gathered, kept, placed, sorted, nested, alt, star, normal}
+use Rattle.meaning.specs.Normal.{chain, cat, gathered, kept, spoilt, placed, sorted, nested, alt, both, star, negated, normal}
 use Rattle.meaning.specs.Derive.{nullable, deriv}
 use Rattle.meaning.specs.Rules.{labelFrom, labelAfter}
 use Rattle.meaning.specs.Words.{Found, scan, firstWord}
@@ -29,7 +29,7 @@ sameBytes (x ∷ xs) (y ∷ ys) = eqb x y && sameBytes xs ys
 
 -- a line's test, by the functions that work the answers out
 unfoldable pub test : Line → Bool
-unfolding sameFound sameBytes order chain cat gathered kept placed sorted nested alt star normal nullable deriv labelFrom scan writeNumber
+unfolding sameFound sameBytes order chain cat gathered kept spoilt placed sorted nested alt both star negated normal nullable deriv labelFrom scan writeNumber
 test (Named rs text l) = eqb (labelAfter rs text) l
 test (Begins rs text found) = sameFound (firstWord rs text) found
 test (Written n bytes) = sameBytes (writeNumber n) bytes

@@ -1,32 +1,33 @@
--- The normal form has the shape of Shape.antt, and on terms in that shape merging is alt, one law for each way the merge goes.
+-- The normal form has the shape of Shape.antt, and on terms in that shape merging is alt and both, one law for each way the merge goes.
 -- Code that builds terms node by node cites these laws and never sees a list of members.
 use Prim.Native.Nat.{ℕ, _+_, _≤_, Ordering, Ordering·lt, Ordering·eq, Ordering·gt}
 use native.Mathlib.Omega.{arith}
 use mathlib.Core.Path.{_≡_, refl, sym, ap, subst, _∙_}
-use mathlib.Core.Bool.{Bool, true, false, cond, _&&_}
+use mathlib.Core.Bool.{Bool, true, false, cond, _&&_, _||_}
 use mathlib.Core.List.{List, [], _∷_, _++_, headD, tail, append-nil}
 use mathlib.Core.Logic.{_↔_}
 use lib.Dec.{leb}
 use lib.ListN.{length}
 use Rattle.number.specs.Branch.{by-cond}
 use Rattle.meaning.specs.Re.{Re, isNothing, isEmpty}
-use Rattle.meaning.specs.Re.Re.{Nothing, Empty, Range, Cat, Alt, Star}
+use Rattle.meaning.specs.Re.Re.{Nothing, Empty, Range, Cat, Alt, Star, And, Not}
 use Rattle.meaning.specs.PartLaws.{All}
 use Rattle.meaning.specs.Order.{order, turned}
 use Rattle.meaning.specs.OrderLaws.{order-turned, order-trans, order-equal}
 use Rattle.meaning.specs.declared.Join.{Join}
-use Rattle.meaning.specs.declared.Join.the-variants.{Then, Or}
-use Rattle.meaning.specs.Normal.{joined, joins, chain, cat, gathered, kept, placed, sorted, nested, alt, star, normal, Before}
+use Rattle.meaning.specs.declared.Join.the-variants.{Then, Or, Both}
+use Rattle.meaning.specs.Normal.{joined, joins, chain, cat, gathered, kept, placed, spoilt, sorted, nested, alt, both, formed, star, negated, normal, Before}
 use Rattle.meaning.specs.JoinLaws.{by-members, joined-some, gathered-alone, gathered-more, Full, gathered-full, nested-more, chain-one}
 use Rattle.meaning.specs.NormalShape.{Rising, sorted-rising}
 use Rattle.meaning.specs.Derive.{nullable, deriv}
-use Rattle.meaning.specs.Shape.{Sorts, InShape, Ordered, headOf, merge, united}
-use Rattle.meaning.specs.Tests.{is-nothing}
+use Rattle.meaning.specs.Shape.{Sorts, InShape, Ordered, headOf, beside, merge, united}
+use Rattle.meaning.specs.Tests.{or-of-true, is-nothing}
 
 -- the shape of what is joined by an operator that sorts
 pub shape-joined : (j : Join) → Sorts j → (a b : Re) → InShape (joined j a b) ↔ (InShape a × InShape b × Ordered j a b)
 shape-joined Then o a b = absurd o
 shape-joined Or o a b = (λ s. s, λ s. s)
+shape-joined Both o a b = (λ s. s, λ s. s)
 
 -- a member of a term in shape
 pub record Member (j : Join) (r : Re) : Type 0 where
@@ -215,6 +216,20 @@ unfolding kept
 kept-members j [] m = refl
 kept-members j (x ∷ xs) m = rw (m .0 .some) (ap {B = List Re} (λ r. x ∷ r) (kept-members j xs (m .1)))
 
+spoilt-append : (xs ys : List Re) → spoilt (xs ++ ys) ≡ (spoilt xs || spoilt ys)
+unfolding spoilt
+spoilt-append [] ys = refl
+spoilt-append (x ∷ xs) ys = rw (spoilt-append xs ys) (go (isNothing x))
+  where
+    go : (b : Bool) → (b || (spoilt xs || spoilt ys)) ≡ ((b || spoilt xs) || spoilt ys)
+    go true = refl
+    go false = refl
+
+unspoilt : (j : Join) (xs : List Re) → All (Member j) xs → spoilt xs ≡ false
+unfolding spoilt
+unspoilt j [] m = refl
+unspoilt j (x ∷ xs) m = rw (m .0 .some) (unspoilt j xs (m .1))
+
 -- merging two terms in shape, neither of which is Nothing: sorting what is gathered from both; in shape again, and with no more members than both have
 module _ (j : Join) (o : Sorts j) (a b : Re) (s : InShape a) (t : InShape b) where
   pub sorted-both : sorted (gathered j a ++ gathered j b) ≡ merge (gathered j a) (gathered j b)
@@ -306,6 +321,9 @@ module _ (j : Join) (o : Sorts j) where
   united-greater-more a y ys t e = more a (joined j y ys) y (gathered j ys) (gathered-more j y ys (single y ys t)) e ∙ onward y a ys
 
   -- a term alone, put through it all
+  pub sorted-own : (r : Re) → InShape r → nested j (sorted (gathered j r)) ≡ r
+  sorted-own r s = rw (sorted-same (gathered j r) (gathered-rising j o r s)) (nested-gathered j o r s)
+
   pub alone : (r : Re) → InShape r → nested j (sorted (kept (gathered j r))) ≡ r
   unfolding kept sorted nested
   alone r s = go (isNothing r) refl
@@ -313,11 +331,14 @@ module _ (j : Join) (o : Sorts j) where
       go : (n : Bool) → isNothing r ≡ n → nested j (sorted (kept (gathered j r))) ≡ r
       go true e = rw (is-nothing r e, gathered-alone j Nothing refl)
       go false e =
-          rw (kept-members j (gathered j r) (gathered-members j o r s e), sorted-same (gathered j r) (gathered-rising j o r s))
-          (nested-gathered j o r s)
+          rw (kept-members j (gathered j r) (gathered-members j o r s e)) (sorted-own r s)
 
--- a choice: merging is alt, and Nothing on a side gives the other side
-pub alt-united : (a b : Re) → InShape a → InShape b → isNothing a ≡ false → isNothing b ≡ false → alt a b ≡ united Or a b
+-- a choice: Nothing on a side gives the other side, and merging is alt
+alt-nothing-right : (a : Re) → InShape a → alt a Nothing ≡ a
+unfolding alt gathered kept
+alt-nothing-right a s = rw (kept-append (gathered Or a) (Nothing ∷ []), append-nil (kept (gathered Or a))) (alone Or tt a s)
+
+alt-united : (a b : Re) → InShape a → InShape b → isNothing a ≡ false → isNothing b ≡ false → alt a b ≡ united Or a b
 unfolding alt united
 alt-united a b s t m n =
     rw (
@@ -327,31 +348,69 @@ alt-united a b s t m n =
       sorted-both Or tt a b s t,
     )
 
-pub alt-nothing-left : (b : Re) → InShape b → alt Nothing b ≡ b
+-- both at once: Nothing on a side gives Nothing, and merging is both
+pub both-nothing-left : (b : Re) → both Nothing b ≡ Nothing
+unfolding both gathered spoilt
+both-nothing-left b = refl
+
+pub both-nothing-right : (a : Re) → both a Nothing ≡ Nothing
+unfolding both gathered spoilt
+both-nothing-right a = rw (spoilt-append (gathered Both a) (Nothing ∷ []), or-of-true (spoilt (gathered Both a)) {b = true} refl)
+
+both-united : (a b : Re) → InShape a → InShape b → isNothing a ≡ false → isNothing b ≡ false → both a b ≡ united Both a b
+unfolding both united
+both-united a b s t m n =
+    rw (
+      spoilt-append (gathered Both a) (gathered Both b),
+      unspoilt Both (gathered Both a) (gathered-members Both tt a s m),
+      unspoilt Both (gathered Both b) (gathered-members Both tt b t n),
+      sorted-both Both tt a b s t,
+    )
+
+-- by the operator
+pub formed-left : (j : Join) → Sorts j → (a b : Re) → InShape b → isNothing a ≡ true → formed j a b ≡ beside j a b
 unfolding alt gathered kept
-alt-nothing-left b s = alone Or tt b s
+formed-left Then o a b t e = absurd o
+formed-left Or o a b t e = rw (is-nothing a e) (alone Or tt b t)
+formed-left Both o a b t e = rw (is-nothing a e) (both-nothing-left b)
 
-pub alt-nothing-right : (a : Re) → InShape a → alt a Nothing ≡ a
-unfolding alt gathered kept
-alt-nothing-right a s = rw (kept-append (gathered Or a) (Nothing ∷ []), append-nil (kept (gathered Or a))) (alone Or tt a s)
+pub formed-right : (j : Join) → Sorts j → (a b : Re) → InShape a → isNothing b ≡ true → formed j a b ≡ beside j b a
+formed-right Then o a b s e = absurd o
+formed-right Or o a b s e = rw (is-nothing b e) (alt-nothing-right a s)
+formed-right Both o a b s e = rw (is-nothing b e) (both-nothing-right a)
 
--- what holds of a side where the other is Nothing, and of the merge where neither is, holds of alt
-pub by-sides : (P : Re → Type 0) (a b : Re) → InShape a → InShape b → (isNothing a ≡ true → P b) → (isNothing b ≡ true → P a)
-    → (isNothing a ≡ false → isNothing b ≡ false → P (united Or a b)) → P (alt a b)
-by-sides P a b s t f g h = go (isNothing a) (isNothing b) refl refl
-  where
-    go : (m n : Bool) → isNothing a ≡ m → isNothing b ≡ n → P (alt a b)
-    go true n d e = rw (is-nothing a d, alt-nothing-left b t) (f d)
-    go false true d e = rw (is-nothing b e, alt-nothing-right a s) (g e)
-    go false false d e = rw (alt-united a b s t d e) (h d e)
+pub formed-united : (j : Join) → Sorts j → (a b : Re) → InShape a → InShape b → isNothing a ≡ false → isNothing b ≡ false → formed j a b ≡ united j a b
+formed-united Then o a b s t m n = absurd o
+formed-united Or o a b s t m n = alt-united a b s t m n
+formed-united Both o a b s t m n = both-united a b s t m n
 
-pub shape-alt : (a b : Re) → InShape a → InShape b → InShape (alt a b)
-shape-alt a b s t = by-sides InShape a b s t (λ _. t) (λ _. s) (shape-united Or tt a b s t)
+-- one of two
+pub beside-one : {A : Type 0} (P : A → Type 0) (j : Join) (x y : A) → P x → P y → P (beside j x y)
+beside-one P Then x y p q = p
+beside-one P Or x y p q = q
+beside-one P Both x y p q = p
 
-pub alt-members : (a b : Re) → InShape a → InShape b → length (gathered Or (alt a b)) ≤ length (gathered Or a) + length (gathered Or b)
-alt-members a b s t =
-    by-sides (λ r. length (gathered Or r) ≤ length (gathered Or a) + length (gathered Or b)) a b s t (λ _. omega arith) (λ _. omega arith)
-    (united-members Or tt a b s t)
+module _ (j : Join) (o : Sorts j) (a b : Re) (s : InShape a) (t : InShape b) where
+  -- what holds of what Nothing on a side gives, and of the merge where neither is Nothing, holds of what is formed
+  pub by-sides : (P : Re → Type 0) → (isNothing a ≡ true → P (beside j a b)) → (isNothing b ≡ true → P (beside j b a))
+      → (isNothing a ≡ false → isNothing b ≡ false → P (united j a b)) → P (formed j a b)
+  by-sides P f g h = go (isNothing a) (isNothing b) refl refl
+    where
+      go : (m n : Bool) → isNothing a ≡ m → isNothing b ≡ n → P (formed j a b)
+      go true n d e = rw (formed-left j o a b t d) (f d)
+      go false true d e = rw (formed-right j o a b s e) (g e)
+      go false false d e = rw (formed-united j o a b s t d e) (h d e)
+
+  pub shape-formed : InShape (formed j a b)
+  shape-formed = by-sides InShape (λ _. beside-one InShape j a b s t) (λ _. beside-one InShape j b a t s) (shape-united j o a b s t)
+
+  pub formed-members : length (gathered j (formed j a b)) ≤ length (gathered j a) + length (gathered j b)
+  formed-members =
+      by-sides Few (λ _. beside-one Few j a b (omega arith) (omega arith)) (λ _. beside-one Few j b a (omega arith) (omega arith))
+      (united-members j o a b s t)
+    where
+      Few : Re → Type 0
+      Few r = length (gathered j r) ≤ length (gathered j a) + length (gathered j b)
 
 -- a chain: what holds of every Cat holds of it, so it is neither Nothing nor Empty, and a choice of one
 chain-is : (P : Re → Type 0) → ((x y : Re) → P (Cat x y)) → (a b : Re) → P (chain a b)
@@ -413,6 +472,20 @@ shape-star (Range lo hi) s = (s, record { some = refl; long = refl; no-star = re
 shape-star (Cat a b) s = (s, record { some = refl; long = refl; no-star = refl })
 shape-star (Alt a b) s = (s, record { some = refl; long = refl; no-star = refl })
 shape-star (Star a) s = s
+shape-star (And a b) s = (s, record { some = refl; long = refl; no-star = refl })
+shape-star (Not a) s = (s, record { some = refl; long = refl; no-star = refl })
+
+-- Not: of a Not the inner term, of anything else its Not
+pub shape-negated : (a : Re) → InShape a → InShape (negated a)
+unfolding negated
+shape-negated Nothing s = (s, refl)
+shape-negated Empty s = (s, refl)
+shape-negated (Range lo hi) s = (s, refl)
+shape-negated (Cat a b) s = (s, refl)
+shape-negated (Alt a b) s = (s, refl)
+shape-negated (Star a) s = (s, refl)
+shape-negated (And a b) s = (s, refl)
+shape-negated (Not a) s = s .0
 
 -- the normal form, and a derivative
 pub shape-normal : (r : Re) → InShape (normal r)
@@ -421,8 +494,10 @@ shape-normal Nothing = tt
 shape-normal Empty = tt
 shape-normal (Range lo hi) = tt
 shape-normal (Cat a b) = shape-cat (normal a) (normal b) (shape-normal a) (shape-normal b)
-shape-normal (Alt a b) = shape-alt (normal a) (normal b) (shape-normal a) (shape-normal b)
+shape-normal (Alt a b) = shape-formed Or tt (normal a) (normal b) (shape-normal a) (shape-normal b)
 shape-normal (Star a) = shape-star (normal a) (shape-normal a)
+shape-normal (And a b) = shape-formed Both tt (normal a) (normal b) (shape-normal a) (shape-normal b)
+shape-normal (Not a) = shape-negated (normal a) (shape-normal a)
 
 pub shape-deriv : (c : ℕ) (r : Re) → InShape r → InShape (deriv c r)
 unfolding deriv
@@ -432,7 +507,9 @@ shape-deriv c (Range lo hi) s = by-cond InShape (leb lo c && leb c hi) (λ _. tt
 shape-deriv c (Cat a b) s = go (nullable a) refl (shape-cat (deriv c a) b (shape-deriv c a (s .0)) (s .1)) (shape-deriv c b (s .1))
   where
     go : (n : Bool) → nullable a ≡ n → InShape (cat (deriv c a) b) → InShape (deriv c b) → InShape (deriv c (Cat a b))
-    go true e p q = rw (e, deriv) (shape-alt (cat (deriv c a) b) (deriv c b) p q)
+    go true e p q = rw (e, deriv) (shape-formed Or tt (cat (deriv c a) b) (deriv c b) p q)
     go false e p q = rw (e, deriv) p
-shape-deriv c (Alt a b) s = shape-alt (deriv c a) (deriv c b) (shape-deriv c a (s .0)) (shape-deriv c b (s .1))
+shape-deriv c (Alt a b) s = shape-formed Or tt (deriv c a) (deriv c b) (shape-deriv c a (s .0)) (shape-deriv c b (s .1))
 shape-deriv c (Star a) s = shape-cat (deriv c a) (Star a) (shape-deriv c a (s .0)) s
+shape-deriv c (And a b) s = shape-formed Both tt (deriv c a) (deriv c b) (shape-deriv c a (s .0)) (shape-deriv c b (s .1))
+shape-deriv c (Not a) s = shape-negated (deriv c a) (shape-deriv c a (s .0))

@@ -1,4 +1,4 @@
--- How many members a term of so many nodes can have, of a chain or of a choice: bounds for code that walks either.
+-- How many members a term of so many nodes can have, by any operator: bounds for code that walks a chain, a choice or an And.
 -- A short term, one of at most treeNodes nodes, has at most 128 of each.
 use Prim.Native.Nat.{_+_, _*_, _/_, _≤_}
 use native.Mathlib.Omega.{arith}

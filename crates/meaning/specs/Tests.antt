@@ -2,11 +2,11 @@
 -- Nothing here is about meaning.
 use Prim.Native.Nat.{ℕ}
 use mathlib.Core.Path.{_≡_, refl}
-use mathlib.Core.Bool.{Bool, true, false, _&&_, _||_}
+use mathlib.Core.Bool.{Bool, true, false, not, _&&_, _||_}
 use mathlib.Core.Logic.{_⊎_, inl, inr}
 use native.Mathlib.Omega.{arith}
 use Rattle.meaning.specs.Re.{Re, isNothing, isEmpty}
-use Rattle.meaning.specs.Re.Re.{Nothing, Empty, Range, Cat, Alt, Star}
+use Rattle.meaning.specs.Re.Re.{Nothing, Empty, Range, Cat, Alt, Star, And, Not}
 
 -- true is not false
 pub clash : {b : Bool} → b ≡ true → b ≡ false → ⊥
@@ -30,6 +30,15 @@ pub or-of-true : (a : Bool) {b : Bool} → b ≡ true → (a || b) ≡ true
 or-of-true true p = refl
 or-of-true false p = p
 
+-- turned
+pub not-true : (a : Bool) → not a ≡ true → a ≡ true → ⊥
+not-true true e p = clash e refl
+not-true false e p = clash p refl
+
+pub true-not : (a : Bool) → (a ≡ true → ⊥) → not a ≡ true
+true-not true f = absurd (f refl)
+true-not false f = refl
+
 pub is-nothing : (r : Re) → isNothing r ≡ true → r ≡ Nothing
 is-nothing Nothing e = refl
 is-nothing Empty e = absurd (clash e refl)
@@ -37,6 +46,8 @@ is-nothing (Range lo hi) e = absurd (clash e refl)
 is-nothing (Cat a b) e = absurd (clash e refl)
 is-nothing (Alt a b) e = absurd (clash e refl)
 is-nothing (Star a) e = absurd (clash e refl)
+is-nothing (And a b) e = absurd (clash e refl)
+is-nothing (Not a) e = absurd (clash e refl)
 
 pub is-empty : (r : Re) → isEmpty r ≡ true → r ≡ Empty
 is-empty Nothing e = absurd (clash e refl)
@@ -45,3 +56,5 @@ is-empty (Range lo hi) e = absurd (clash e refl)
 is-empty (Cat a b) e = absurd (clash e refl)
 is-empty (Alt a b) e = absurd (clash e refl)
 is-empty (Star a) e = absurd (clash e refl)
+is-empty (And a b) e = absurd (clash e refl)
+is-empty (Not a) e = absurd (clash e refl)

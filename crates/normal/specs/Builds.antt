@@ -5,7 +5,7 @@ use mathlib.Core.Path.{_≡_}
 use mathlib.Core.Bool.{cond}
 use mathlib.Core.List.{List}
 use Rattle.meaning.specs.declared.Join.the-variants.{Then}
-use Rattle.meaning.specs.Normal.{chain, cat, star}
+use Rattle.meaning.specs.Normal.{chain, cat, star, negated}
 use Rattle.meaning.specs.Limited.{short, fit}
 use Rattle.term.specs.declared.Term.{Term as Node}
 use Rattle.term.specs.Cells.{grow, term}
@@ -29,11 +29,17 @@ Cats s top a b s′ r = Makes s top s′ (r .root) (r .top) (cat (term s a) (ter
 abbrev pub Stars : List ℕ → ℕ → ℕ → List ℕ → Built → Type 0
 Stars s top a s′ r = Makes s top s′ (r .root) (r .top) (star (term s a)) 1
 
+abbrev pub Negates : List ℕ → ℕ → ℕ → List ℕ → Built → Type 0
+Negates s top a s′ r = Makes s top s′ (r .root) (r .top) (negated (term s a)) 1
+
 -- what was built is counted
 pub record Fitted (s : List ℕ) (made : Built) (s′ : List ℕ) (r : Made) : Type 0 where
   pub is : r ≡ cond (short (term s (made .root))) (Term (made .root) (made .top)) Long
   pub wasted : Wasted s (made .top) s′ (made .top + pending)
 
--- cat with the limit
+-- cat and negated with the limit
 abbrev pub CatFits : List ℕ → ℕ → ℕ → ℕ → List ℕ → Made → Type 0
 CatFits s top a b s′ r = MadeBy s top s′ r (fit (cat (term s a) (term s b))) (catCells (term s a) (term s b))
+
+abbrev pub NegatedFits : List ℕ → ℕ → ℕ → List ℕ → Made → Type 0
+NegatedFits s top a s′ r = MadeBy s top s′ r (fit (negated (term s a))) 1

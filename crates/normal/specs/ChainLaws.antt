@@ -1,4 +1,4 @@
--- Laws for chain, cat and star, one for each of their returns, calls and turns: what the node told, and what a callee made, is what is asked.
+-- Laws for chain, cat, star and negated, one for each of their returns, calls and turns: what the node told, and what a callee made, is what is asked.
 -- cat makes nothing new unless both sides are more than Empty.
 use Prim.Native.Nat.{ℕ, _+_, _<_, _≤_}
 use native.Mathlib.Omega.{arith}
@@ -8,18 +8,18 @@ use mathlib.Core.List.{List}
 use lib.ListN.{length, getD, set}
 use Rattle.meaning.specs.declared.Join.the-variants.{Then}
 use Rattle.meaning.specs.Re.{Re, isNothing, isEmpty}
-use Rattle.meaning.specs.Normal.{chain, cat, star}
+use Rattle.meaning.specs.Normal.{chain, cat, star, negated}
 use Rattle.meaning.specs.JoinLaws.{chain-one}
 use Rattle.meaning.specs.ShapeLaws.{cat-chain}
 use Rattle.meaning.specs.Tests.{clash, is-nothing, is-empty}
 use Rattle.term.specs.declared.Term.{Term}
-use Rattle.term.specs.declared.Term.the-variants.{Nothing, Empty, Range, Cat, Alt, Star}
+use Rattle.term.specs.declared.Term.the-variants.{Nothing, Empty, Range, Cat, Alt, Star, And, Not}
 use Rattle.term.specs.Cells.{nodeOf, grow, term, Sound}
 use Rattle.term.specs.Area.{Makes}
 use Rattle.term.specs.Nodes.{kindOf, firstOf, secondOf, Found}
 use Rattle.term.specs.Counts.{Countable}
 use Rattle.term.specs.CellLaws.{found, makes-old, makes-more, makes-as}
-use Rattle.term.specs.ReadLaws.{of-kind}
+use Rattle.term.specs.ReadLaws.{of-kind, found-kind}
 use Rattle.normal.specs.Asked.{members, plain, catCells, Links, CountedLinks}
 use Rattle.normal.specs.NodeLaws.{Joins, told-joins, told-single, members-some, members-rest}
 use Rattle.normal.specs.NestLaws.{listing-first, listing-next, listing-asks, listing-made}
@@ -160,6 +160,8 @@ star-more (Range lo hi) f m n h = refl
 star-more (Cat a b) f m n h = refl
 star-more (Alt a b) f m n h = refl
 star-more (Star a) f m n h = absurd (h refl)
+star-more (And a b) f m n h = refl
+star-more (Not a) f m n h = refl
 
 module _ {s : List ℕ} {a : ℕ} {u : Term} (f : Found s a u) {top : ℕ} where
   pub star-nothing : isNothing (term s a) ≡ true → {s′ : List ℕ} {root top′ : ℕ} → Makes s top s′ root top′ Re.Empty 1
@@ -178,3 +180,27 @@ module _ {s : List ℕ} {a : ℕ} {u : Term} (f : Found s a u) {top : ℕ} where
   pub star-new : isNothing (term s a) ≡ false → isEmpty (term s a) ≡ false → (kindOf u ≡ 5 → ⊥) → {s′ : List ℕ} {root top′ : ℕ}
       → Makes s top s′ root top′ (Re.Star (term s a)) 1 → Makes s top s′ root top′ (star (term s a)) 1
   star-new x y n m = makes-as (star (term s a)) m (rw (f .is) (star-more u (term s) (rw (f .is) at x) (rw (f .is) at y) n))
+
+-- ---- negated
+
+negated-more : (u : Term) (f : ℕ → Re) → (kindOf u ≡ 7 → ⊥) → Re.Not (grow u f) ≡ negated (grow u f)
+unfolding negated
+negated-more Nothing f h = refl
+negated-more Empty f h = refl
+negated-more (Range lo hi) f h = refl
+negated-more (Cat a b) f h = refl
+negated-more (Alt a b) f h = refl
+negated-more (Star a) f h = refl
+negated-more (And a b) f h = refl
+negated-more (Not a) f h = absurd (h refl)
+
+module _ {s : List ℕ} {a : ℕ} {u : Term} (f : Found s a u) {top : ℕ} where
+  pub negated-not : Sound s top → a < top → kindOf u ≡ 7 → {x : ℕ} → x ≡ firstOf u → Makes s top s x top (negated (term s a)) 1
+  unfolding negated
+  negated-not ok h k {x} e =
+      let g = found-kind f k e refl in
+      makes-old x 1 (negated (term s a)) ok (omega (arith, g .below)) (rw (g .is))
+
+  pub negated-new : (kindOf u ≡ 7 → ⊥) → {s′ : List ℕ} {root top′ : ℕ}
+      → Makes s top s′ root top′ (Re.Not (term s a)) 1 → Makes s top s′ root top′ (negated (term s a)) 1
+  negated-new n m = makes-as (negated (term s a)) m (rw (f .is) (negated-more u (term s) n))

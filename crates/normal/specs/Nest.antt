@@ -1,4 +1,4 @@
--- Members nested to the right, as the links of a chain and the members of a choice are: what their list above the top asks, and what is made of it.
+-- Members nested to the right, as the links of a chain and the members of a choice or of an And are: what their list above the top asks, and what is made of it.
 -- A list is of numbers of terms below the top, one a cell; the nodes take its place.
 use Prim.Native.Nat.{ℕ, zero, suc, _+_, _-_, _<_, _≤_}
 use mathlib.Core.Path.{_≡_}
@@ -7,11 +7,11 @@ use mathlib.Core.List.{List}
 use lib.Dec.{eqb}
 use lib.ListN.{length, getD}
 use Rattle.meaning.specs.declared.Join.{Join}
-use Rattle.meaning.specs.declared.Join.the-variants.{Then, Or}
+use Rattle.meaning.specs.declared.Join.the-variants.{Then, Or, Both}
 use Rattle.meaning.specs.Re.{Re}
 use Rattle.meaning.specs.Normal.{joined}
 use Rattle.term.specs.declared.Term.{Term}
-use Rattle.term.specs.declared.Term.the-variants.{Cat, Alt}
+use Rattle.term.specs.declared.Term.the-variants.{Cat, Alt, And}
 use Rattle.term.specs.Cells.{term, Sound}
 use Rattle.term.specs.Nodes.{kindOf}
 use Rattle.term.specs.Area.{Wasted, Makes}
@@ -21,6 +21,7 @@ use Rattle.normal.specs.declared.Built.{Built}
 abbrev pub joinNode : Join → ℕ → ℕ → Term
 joinNode Then a b = Cat a b
 joinNode Or a b = Alt a b
+joinNode Both a b = And a b
 
 abbrev pub joinsNode : Join → Term → Bool
 joinsNode k u = eqb (kindOf u) (kindOf (joinNode k 0 0))

@@ -9,7 +9,7 @@ use lib.ListN.{length, getD, set, length-set}
 use lib.Seq.{getD-set-same, getD-set-other}
 use borrow.Author.Count.{below-more}
 use Rattle.meaning.specs.declared.Join.{Join}
-use Rattle.meaning.specs.declared.Join.the-variants.{Then, Or}
+use Rattle.meaning.specs.declared.Join.the-variants.{Then, Or, Both}
 use Rattle.meaning.specs.Re.{Re}
 use Rattle.meaning.specs.Normal.{joined}
 use Rattle.term.specs.declared.Term.{Term}
@@ -25,10 +25,12 @@ use Rattle.normal.specs.Nest.{joinNode, nested, Listing, Lists, Turned, 
 join-below : (k : Join) (x y i : ℕ) → x < i → y < i → Below (joinNode k x y) i
 join-below Then x y i g h = (g, h)
 join-below Or x y i g h = (g, h)
+join-below Both x y i g h = (g, h)
 
 join-grow : (k : Join) (x y : ℕ) (f : ℕ → Re) → grow (joinNode k x y) f ≡ joined k (f x) (f y)
 join-grow Then x y f = refl
 join-grow Or x y f = refl
+join-grow Both x y f = refl
 
 -- members that are the same are nested to the same term
 nested-same : (k : Join) (s s′ l l′ : List ℕ) (top n : ℕ) (r : Re)

@@ -8,16 +8,16 @@ use mathlib.Core.List.{List, [], _∷_}
 use lib.ListN.{length, length-append}
 use borrow.Author.Tests.{eqb-true}
 use Rattle.meaning.specs.declared.Join.{Join}
-use Rattle.meaning.specs.declared.Join.the-variants.{Then, Or}
+use Rattle.meaning.specs.declared.Join.the-variants.{Then, Or, Both}
 use Rattle.meaning.specs.Re.{Re, isNothing, isEmpty}
 use Rattle.meaning.specs.Normal.{joined, joins, gathered}
 use Rattle.meaning.specs.JoinLaws.{Full, gathered-full, gathered-joined}
 use Rattle.term.specs.declared.Term.{Term}
-use Rattle.term.specs.declared.Term.the-variants.{Nothing, Empty, Range, Cat, Alt, Star}
+use Rattle.term.specs.declared.Term.the-variants.{Nothing, Empty, Range, Cat, Alt, Star, And, Not}
 use Rattle.term.specs.Cells.{grow, term}
 use Rattle.term.specs.Nodes.{kindOf, firstOf, secondOf, nothingNode, emptyNode, Found}
 use Rattle.term.specs.CellLaws.{found-nothing, found-empty}
-use Rattle.term.specs.ReadLaws.{found-cat, found-alt}
+use Rattle.term.specs.ReadLaws.{found-kind}
 use Rattle.normal.specs.Asked.{members}
 use Rattle.normal.specs.Nest.{joinsNode}
 
@@ -29,12 +29,24 @@ grown-joins Then (Range lo hi) f = refl
 grown-joins Then (Cat a b) f = refl
 grown-joins Then (Alt a b) f = refl
 grown-joins Then (Star a) f = refl
+grown-joins Then (And a b) f = refl
+grown-joins Then (Not a) f = refl
 grown-joins Or Nothing f = refl
 grown-joins Or Empty f = refl
 grown-joins Or (Range lo hi) f = refl
 grown-joins Or (Cat a b) f = refl
 grown-joins Or (Alt a b) f = refl
 grown-joins Or (Star a) f = refl
+grown-joins Or (And a b) f = refl
+grown-joins Or (Not a) f = refl
+grown-joins Both Nothing f = refl
+grown-joins Both Empty f = refl
+grown-joins Both (Range lo hi) f = refl
+grown-joins Both (Cat a b) f = refl
+grown-joins Both (Alt a b) f = refl
+grown-joins Both (Star a) f = refl
+grown-joins Both (And a b) f = refl
+grown-joins Both (Not a) f = refl
 
 -- a node that joins a member to the rest: both stand below it, and its term is theirs, joined
 pub record Joins (k : Join) (s : List ℕ) (i x y : ℕ) : Type 0 where
@@ -43,8 +55,9 @@ pub record Joins (k : Join) (s : List ℕ) (i x y : ℕ) : Type 0 where
   pub is : term s i ≡ joined k (term s x) (term s y)
 
 node-joins : (k : Join) {s : List ℕ} {i : ℕ} {u : Term} {x y : ℕ} → Found s i u → joinsNode k u ≡ true → x ≡ firstOf u → y ≡ secondOf u → Joins k s i x y
-node-joins Then {u = u} f e p q = let g = found-cat f (eqb-true (kindOf u) 3 e) p q in record { first = g .below .0; rest = g .below .1; is = g .is }
-node-joins Or {u = u} f e p q = let g = found-alt f (eqb-true (kindOf u) 4 e) p q in record { first = g .below .0; rest = g .below .1; is = g .is }
+node-joins Then {u = u} f e p q = let g = found-kind f (eqb-true (kindOf u) 3 e) p q in record { first = g .below .0; rest = g .below .1; is = g .is }
+node-joins Or {u = u} f e p q = let g = found-kind f (eqb-true (kindOf u) 4 e) p q in record { first = g .below .0; rest = g .below .1; is = g .is }
+node-joins Both {u = u} f e p q = let g = found-kind f (eqb-true (kindOf u) 6 e) p q in record { first = g .below .0; rest = g .below .1; is = g .is }
 
 -- the answer of joins
 module _ (k : Join) {s : List ℕ} {i : ℕ} {u : Term} {p : Bool} (f : Found s i u) (e : p ≡ joinsNode k u) where

@@ -1,16 +1,19 @@
-// Terms built in the work area, always in normal form: leaves, cat and star on terms in normal form. The choice of two terms is the crate choice's.
+// Terms built in the work area, always in normal form: leaves, cat, star and negated on terms in normal form. What has sorted members is the crate merged's.
 // A result with the limit is counted, and one of more than 255 nodes is Long.
 ghost use mathlib.Core.Path.{_≡_};
-ghost use Prim.Native.Nat.{_<_, _≤_};
+ghost use Prim.Native.Nat.{_+_, _<_, _≤_};
 ghost use lib.ListN.{length};
 ghost use Rattle.term.specs.Cells.{Below, Sound};
+ghost use Rattle.term.specs.Area.{pending, Room};
 ghost use Rattle.term.specs.Counts.{Countable};
 ghost use Rattle.normal.specs.Asked.{Links, CountedLinks};
-ghost use Rattle.normal.specs.Builds.{Stores, Chains, Cats, Stars, Fitted, CatFits};
+ghost use Rattle.normal.specs.Builds.{Stores, Chains, Cats, Stars, Negates, Fitted, CatFits, NegatedFits};
 ghost use Rattle.normal.specs.Nest.{joinNode, joinsNode, Turned, Lists, Nests};
 use meaning::Join;
 use term::ALT;
+use term::AND;
 use term::CAT;
+use term::NOT;
 use term::STAR;
 use term::Term;
 
@@ -47,6 +50,7 @@ fn joined(join: Join, first: usize, rest: usize) -> Term
     match join {
         Join::Then => Term::Cat(first, rest),
         Join::Or => Term::Alt(first, rest),
+        Join::Both => Term::And(first, rest),
     }
 }
 
@@ -57,6 +61,7 @@ pub fn joins(node: Term, join: Join) -> bool
     match join {
         Join::Then => kind == CAT,
         Join::Or => kind == ALT,
+        Join::Both => kind == AND,
     }
 }
 
@@ -157,6 +162,23 @@ pub fn star(cells: &mut [u64], top: usize, a: usize) -> Built
     store(cells, top, Term::Star(a))
 }
 
+// Not of a term: that of a Not is its inner term.
+pub fn negated(cells: &mut [u64], top: usize, a: usize) -> Built
+    requires { ⌜ Sound (now cells) top ⌝ }
+    requires { ⌜ a < top ⌝ }
+    requires { ⌜ top < length (now cells) ⌝ }
+    ensures { λ r. ⌜ Negates (now (cells .entry)) top a (now (cells .exit)) r ⌝ }
+{
+    let node = term::node_at(cells, a);
+    if term::kind_of(node) == NOT {
+        return Built {
+            root: term::first_of(node),
+            top,
+        };
+    }
+    store(cells, top, Term::Not(a))
+}
+
 // What was built, with the limit: a result of too many nodes is Long.
 pub fn fit(cells: &mut [u64], made: Built) -> Made
     requires { ⌜ Countable (now cells) (made .top) (made .root) ⌝ }
@@ -175,5 +197,16 @@ pub fn cat_fit(cells: &mut [u64], top: usize, a: usize, b: usize) -> Made
     ensures { λ r. ⌜ CatFits (now (cells .entry)) top a b (now (cells .exit)) r ⌝ }
 {
     let made = cat(cells, top, a, b);
+    fit(cells, made)
+}
+
+// negated with the limit.
+pub fn negated_fit(cells: &mut [u64], top: usize, a: usize) -> Made
+    requires { ⌜ Sound (now cells) top ⌝ }
+    requires { ⌜ a < top ⌝ }
+    requires { ⌜ Room (now cells) top (1 + pending) ⌝ }
+    ensures { λ r. ⌜ NegatedFits (now (cells .entry)) top a (now (cells .exit)) r ⌝ }
+{
+    let made = negated(cells, top, a);
     fit(cells, made)
 }

@@ -17,7 +17,7 @@ abbrev pub firstVersion : ℕ
 firstVersion = 1
 
 abbrev pub lastVersion : ℕ
-lastVersion = 1
+lastVersion = 2
 
 abbrev pub sheetVersion : ℕ
 sheetVersion = 1
@@ -53,6 +53,12 @@ codeStar = 5
 
 abbrev pub codeEither : ℕ
 codeEither = 6
+
+abbrev pub codeAnd : ℕ
+codeAnd = 7
+
+abbrev pub codeNot : ℕ
+codeNot = 8
 
 -- bytes: how many there are, and the largest
 abbrev pub bytes : ℕ

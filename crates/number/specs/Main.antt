@@ -9,7 +9,7 @@ use lib.ListN.{length, take, drop}
 use Rattle.number.specs.declared.Refusal.{Refusal}
 use Rattle.number.specs.declared.Refusal.the-variants.{Number, Tail, Padded}
 use Rattle.number.specs.Limits.{group, twoGroups, threeGroups, firstVersion, lastVersion, sheetVersion, rules, kinds, nodes}
-use Rattle.number.specs.Limits.{codeNothing, codeEmpty, codeRange, codeCat, codeAlt, codeStar, codeEither, bytes, lastByte}
+use Rattle.number.specs.Limits.{codeNothing, codeEmpty, codeRange, codeCat, codeAlt, codeStar, codeEither, codeAnd, codeNot, bytes, lastByte}
 use Rattle.number.specs.Limits.{firstLetter, lastLetter, capital, states, tableCells, treeNodes, pool, pairs, shownText}
 use Rattle.number.specs.Limits.{workCells, scratch, deep, typedArea, bookFile, textFile, sheetFile, rulesFile}
 use Rattle.number.specs.Refused.{number, place, rowOf, rowRead}
@@ -33,10 +33,10 @@ use Rattle.number.specs.MainLaws.{written-room, bytes-none, bytes-more, 
 -- every limit by its number
 pub record LimitNumbers : Type 0 where
   pub groups : (group ≡ 128) × (twoGroups ≡ 16384) × (threeGroups ≡ 2097152)
-  pub versions : (firstVersion ≡ 1) × (lastVersion ≡ 1) × (sheetVersion ≡ 1)
+  pub versions : (firstVersion ≡ 1) × (lastVersion ≡ 2) × (sheetVersion ≡ 1)
   pub books : (rules ≡ 32) × (kinds ≡ 16383) × (nodes ≡ 512)
   pub leaf-codes : (codeNothing ≡ 0) × (codeEmpty ≡ 1) × (codeRange ≡ 2) × (codeEither ≡ 6)
-  pub operator-codes : (codeCat ≡ 3) × (codeAlt ≡ 4) × (codeStar ≡ 5)
+  pub operator-codes : (codeCat ≡ 3) × (codeAlt ≡ 4) × (codeStar ≡ 5) × (codeAnd ≡ 7) × (codeNot ≡ 8)
   pub of-bytes : (bytes ≡ 256) × (lastByte ≡ 255)
   pub letters : (firstLetter ≡ 97) × (lastLetter ≡ 122) × (capital ≡ 32)
   pub tables : (states ≡ 255) × (tableCells ≡ 65280)
@@ -52,7 +52,7 @@ the-limits =
       versions = (refl, refl, refl);
       books = (refl, refl, refl);
       leaf-codes = (refl, refl, refl, refl);
-      operator-codes = (refl, refl, refl);
+      operator-codes = (refl, refl, refl, refl, refl);
       of-bytes = (refl, refl);
       letters = (refl, refl, refl);
       tables = (refl, refl);

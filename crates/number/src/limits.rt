@@ -9,7 +9,7 @@ pub const TWO_GROUPS: usize = GROUP * GROUP;
 // Versions: of books the first and the last, and the only one of sheets.
 pub const FIRST_VERSION: usize = 1;
 
-pub const LAST_VERSION: usize = 1;
+pub const LAST_VERSION: usize = 2;
 
 pub const SHEET_VERSION: usize = 1;
 
@@ -34,6 +34,10 @@ pub const CODE_ALT: usize = 4;
 pub const CODE_STAR: usize = 5;
 
 pub const CODE_EITHER: usize = 6;
+
+pub const CODE_AND: usize = 7;
+
+pub const CODE_NOT: usize = 8;
 
 // Bytes: how many there are, and the largest.
 pub const BYTES: usize = 256;

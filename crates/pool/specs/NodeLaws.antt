@@ -14,7 +14,7 @@ use Rattle.meaning.specs.PartLaws.{All}
 use Rattle.meaning.specs.Order.{rank}
 use Rattle.meaning.specs.Tests.{clash, and-true, true-and}
 use Rattle.term.specs.declared.Term.{Term}
-use Rattle.term.specs.declared.Term.the-variants.{Nothing, Empty, Range, Cat, Alt, Star}
+use Rattle.term.specs.declared.Term.the-variants.{Nothing, Empty, Range, Cat, Alt, Star, And, Not}
 use Rattle.term.specs.Cells.{nodeOf, grow, term, Below}
 use Rattle.term.specs.Nodes.{kindOf, firstOf, secondOf, childrenOf, Held}
 use Rattle.term.specs.ReadLaws.{rank-grow, rebuild, parts-grow, below-children, below-again}
@@ -71,6 +71,8 @@ fields (Range lo hi) f = refl
 fields (Cat a b) f = refl
 fields (Alt a b) f = refl
 fields (Star a) f = refl
+fields (And a b) f = refl
+fields (Not a) f = refl
 
 -- where children with equal terms are equal, nodes with equal terms are equal
 module _ (f : ℕ → Re) (top : ℕ) (apart : (i j : ℕ) → i < top → j < top → f i ≡ f j → i ≡ j) where

@@ -52,15 +52,18 @@ mergedSheet =
     0x01 ∷ 0x03 ∷ 0x61 ∷ 0x01 ∷ 0x1A ∷ 0x04 ∷ 0x85 ∷ 0x01 ∷ 0x01 ∷
     []
 
--- W without its last byte, and its sheet without its last byte; a book and a sheet of version 2
+-- W without its last byte, and its sheet without its last byte; a book of version 3, and a sheet of version 2
 abbrev earlyBook : List ℕ
 earlyBook = take 35 wBytes
 
 abbrev earlySheet : List ℕ
 earlySheet = take 72 wSheet
 
-abbrev newer : List ℕ
-newer = 0x02 ∷ 0x01 ∷ []
+abbrev newerBook : List ℕ
+newerBook = 0x03 ∷ 0x01 ∷ []
+
+abbrev newerSheet : List ℕ
+newerSheet = 0x02 ∷ 0x01 ∷ []
 
 -- a book and a sheet whose count, 1, is padded to two groups
 abbrev paddedCount : List ℕ
@@ -141,17 +144,17 @@ abbrev pub prints : List Print
 prints =
     cuts lettersBook lettersText lettersLines ∷
     cuts earlyBook (116 ∷ []) bookEnds ∷
-    cuts newer [] isNewer ∷
+    cuts newerBook [] isNewer ∷
     cuts paddedCount [] isPadded ∷
     cuts longBook [] isLong ∷
     cuts wBytes [] noWords ∷
     compares wBytes mergedSheet mergedLines ∷
     compares earlyBook wSheet bookEnds ∷
-    compares earlyBook newer bookEnds ∷
-    compares newer earlySheet isNewer ∷
+    compares earlyBook newerSheet bookEnds ∷
+    compares newerBook earlySheet isNewer ∷
     compares paddedCount wSheet isPadded ∷
     compares wBytes earlySheet sheetEnds ∷
-    compares wBytes newer isNewer ∷
+    compares wBytes newerSheet isNewer ∷
     compares wBytes paddedCount isPadded ∷
     compares longBook wSheet isLong ∷
     []

@@ -7,14 +7,16 @@ use mathlib.Core.Bool.{Bool, true, false, cond, _||_}
 use mathlib.Core.List.{List}
 use lib.ListN.{length}
 use Rattle.number.specs.Limits.{capital}
-use Rattle.meaning.specs.declared.Join.the-variants.{Then, Or}
+use Rattle.meaning.specs.declared.Join.{Join}
+use Rattle.meaning.specs.declared.Join.the-variants.{Then, Or, Both}
 use Rattle.meaning.specs.Re.{Re, size, isNothing}
-use Rattle.meaning.specs.Normal.{gathered, alt}
+use Rattle.meaning.specs.Normal.{gathered, alt, formed}
 use Rattle.meaning.specs.Limited.{short, fit}
 use Rattle.meaning.specs.Limited.Fit.{Long, Fits}
+use Rattle.meaning.specs.Shape.{Sorts}
 use Rattle.meaning.specs.SizeLaws.{short-members}
 use Rattle.book.specs.declared.Node.{Node}
-use Rattle.book.specs.declared.Node.the-variants.{Nothing, Empty, Range, Cat, Alt, Star, Either}
+use Rattle.book.specs.declared.Node.the-variants.{Nothing, Empty, Range, Cat, Alt, Star, Either, And, Not}
 use Rattle.book.specs.Book.{takes}
 use Rattle.book.specs.Valid.{Within}
 use Rattle.term.specs.declared.Term.the-variants.{Range as RangeNode}
@@ -25,11 +27,11 @@ use Rattle.term.specs.Counts.{Countable}
 use Rattle.term.specs.CellLaws.{grown-trans, grown-term, makes-more, makes-as, makes-after}
 use Rattle.normal.specs.declared.Built.{Built}
 use Rattle.normal.specs.Asked.{members, mostMembers, Links}
-use Rattle.choice.specs.Asked.{altCells, Sides}
-use Rattle.choice.specs.Builds.{Alts}
+use Rattle.merged.specs.Asked.{mergeCells, Sides}
+use Rattle.merged.specs.Builds.{Merged}
 use Rattle.normal.specs.AnswerLaws.{made-counts}
 use Rattle.normal.specs.ChainLaws.{cat-few}
-use Rattle.choice.specs.UniteLaws.{alt-few}
+use Rattle.merged.specs.UniteLaws.{merge-few}
 use Rattle.rule.specs.RunFit.{large, small, made}
 use Rattle.rule.specs.Work.{Item, eitherCells, nodeCells, nodeRoom, Operands, NodeBuilt, EitherBuilt}
 
@@ -47,6 +49,7 @@ module _ {s s1 s2 : List ℕ} {top second third x : ℕ} (room : Room s top eith
   unfolding gathered size
   letters-ask =
       record {
+        sorts = tt;
         sound = q .makes .grown .sound;
         left = omega (arith, p .after, q .after);
         right = omega (arith, q .after);
@@ -59,17 +62,26 @@ module _ {s s1 s2 : List ℕ} {top second third x : ℕ} (room : Room s top eith
             (omega (arith, p .after, q .after, p .makes .grown .same-length, q .makes .grown .same-length));
       }
 
-  letters-few : altCells (term s2 top) (term s2 second) ≤ 1
+  letters-few : mergeCells Or (term s2 top) (term s2 second) ≤ 1
   unfolding gathered
-  letters-few = rw (letter-large, letter-small) (alt-few (large x) (small x) tt tt)
+  letters-few = rw (letter-large, letter-small) (merge-few Or tt (large x) (small x) tt tt)
 
-  pub letters-built : {s3 : List ℕ} {r : Built} → Alts s2 third top second s3 r → EitherBuilt s top x s3 r
+  pub letters-built : {s3 : List ℕ} {r : Built} → Merged Or s2 third top second s3 r → EitherBuilt s top x s3 r
   letters-built m =
       makes-as (alt (large x) (small x))
       (makes-more 3 (makes-after 2 (grown-trans (p .makes .grown) (q .makes .grown)) (omega (arith, p .after, q .after)) m) (omega (arith, letters-few)))
       (rw (letter-large, letter-small))
 
 -- ---- a node's parts
+
+merged-few : (k : Join) → Sorts k → {s : List ℕ} {top a b : ℕ} → Item s top a → Item s top b → mergeCells k (term s a) (term s b) ≤ nodeRoom
+merged-few k sorts {s} {top} {a} {b} x y =
+    omega (
+      arith,
+      merge-few k sorts (term s a) (term s b) (x .in-shape) (y .in-shape),
+      short-members k (term s a) (x .is-short),
+      short-members k (term s b) (y .is-short),
+    )
 
 module _ {n : Node} {s : List ℕ} {top a b : ℕ} (o : Operands n s top a b) where
   pub node-within : (m : Node) → n ≡ m → Within (o .version) m
@@ -78,12 +90,13 @@ module _ {n : Node} {s : List ℕ} {top a b : ℕ} (o : Operands n s top a b) wh
   pub node-room : top < length s
   node-room = omega (arith, o .room)
 
-  both : 2 ≤ takes n → Item s top a × Item s top b
-  both h = (o .below h, o .first (omega arith))
+  -- a node of two terms finds both, in normal form and short
+  items : (m : Node) → n ≡ m → 2 ≤ takes m → Item s top a × Item s top b
+  items m e two = (o .below (rw e two), o .first (rw e (omega arith)))
 
   pub cat-asks : n ≡ Cat → Links s top a b
   cat-asks e =
-      let x = both (rw e (omega arith)) in
+      let x = items Cat e (omega arith) in
       record {
         sound = o .sound;
         left = x .0 .low;
@@ -91,10 +104,11 @@ module _ {n : Node} {s : List ℕ} {top a b : ℕ} (o : Operands n s top a b) wh
         room = omega (arith, o .room, short-members Then (term s a) (x .0 .is-short));
       }
 
-  pub alt-asks : n ≡ Alt → Sides Or s top a b
-  alt-asks e =
-      let x = both (rw e (omega arith)) in
+  pub merge-asks : (k : Join) → Sorts k → (m : Node) → n ≡ m → 2 ≤ takes m → Sides k s top a b
+  merge-asks k sorts m e two =
+      let x = items m e two in
       record {
+        sorts = sorts;
         sound = o .sound;
         left = x .0 .low;
         right = x .1 .low;
@@ -102,11 +116,12 @@ module _ {n : Node} {s : List ℕ} {top a b : ℕ} (o : Operands n s top a b) wh
         right-shape = x .1 .in-shape;
         left-short = x .0 .is-short;
         right-short = x .1 .is-short;
-        room = omega (arith, o .room, short-members Or (term s a) (x .0 .is-short), short-members Or (term s b) (x .1 .is-short));
+        room = omega (arith, o .room, short-members k (term s a) (x .0 .is-short), short-members k (term s b) (x .1 .is-short));
       }
 
-  pub star-asks : n ≡ Star → b < top
-  star-asks e = o .first (rw e (omega arith)) .low
+  -- a node of one term finds it
+  pub one-asks : (m : Node) → n ≡ m → 1 ≤ takes m → b < top
+  one-asks m e one = o .first (rw e one) .low
 
   -- the cells that any node takes
   pub node-few : nodeCells n (term s a) (term s b) ≤ nodeRoom
@@ -117,17 +132,11 @@ module _ {n : Node} {s : List ℕ} {top a b : ℕ} (o : Operands n s top a b) wh
       go Empty q = omega arith
       go (Range lo hi) q = omega arith
       go Cat q = omega (arith, cat-few (term s a) (term s b), short-members Then (term s a) (q .below (omega arith) .is-short))
-      go Alt q =
-          let x = q .below (omega arith) in
-          let y = q .first (omega arith) in
-          omega (
-            arith,
-            alt-few (term s a) (term s b) (x .in-shape) (y .in-shape),
-            short-members Or (term s a) (x .is-short),
-            short-members Or (term s b) (y .is-short),
-          )
+      go Alt q = merged-few Or tt (q .below (omega arith)) (q .first (omega arith))
       go Star q = omega arith
       go (Either x) q = omega arith
+      go And q = merged-few Both tt (q .below (omega arith)) (q .first (omega arith))
+      go Not q = omega arith
 
   -- and its result may be counted
   pub node-counts : Room s top (nodeRoom + pending) → {s′ : List ℕ} {made : Built} → NodeBuilt n s top a b s′ made
@@ -148,13 +157,13 @@ fit-short r v = go (short r)
     go true e = refl
     go false e = absurd (let z : _≡_ {A = ℕ} 0 1 = cc in omega arith)
 
-alt-cells : (a b : Re) → altCells a b ≤ members Or (alt a b)
-unfolding altCells
-alt-cells a b = go (isNothing a || isNothing b)
+merge-cells : (k : Join) (a b v : Re) → fit (formed k a b) ≡ Fits v → mergeCells k a b ≤ mostMembers
+unfolding mergeCells
+merge-cells k a b v e = go (isNothing a || isNothing b) (short-members k (formed k a b) (fit-short (formed k a b) v e))
   where
-    go : (t : Bool) → cond t 0 (members Or (alt a b) - 1) ≤ members Or (alt a b)
-    go true = omega arith
-    go false = omega arith
+    go : (t : Bool) → members k (formed k a b) ≤ mostMembers → cond t 0 (members k (formed k a b) - 1) ≤ mostMembers
+    go true h = omega arith
+    go false h = omega arith
 
 pub node-cells : {n : Node} {s : List ℕ} {top a b : ℕ} (v : Re) → Operands n s top a b → made n (term s a) (term s b) ≡ Fits v
     → nodeCells n (term s a) (term s b) ≤ 3 + mostMembers / 2 * takes n
@@ -166,8 +175,8 @@ node-cells {n} {s} {top} {a} {b} v = go n
     go Empty o e = omega arith
     go (Range lo hi) o e = omega arith
     go Cat o e = omega (arith, cat-few (term s a) (term s b), short-members Then (term s a) (o .below (omega arith) .is-short))
-    go Alt o e =
-        let x = alt (term s a) (term s b) in
-        omega (arith, alt-cells (term s a) (term s b), short-members Or x (fit-short x v e))
+    go Alt o e = omega (arith, merge-cells Or (term s a) (term s b) v e)
     go Star o e = omega arith
     go (Either x) o e = omega arith
+    go And o e = omega (arith, merge-cells Both (term s a) (term s b) v e)
+    go Not o e = omega arith

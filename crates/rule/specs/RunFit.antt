@@ -5,11 +5,11 @@ use mathlib.Core.List.{List, [], _∷_}
 use lib.ListN.{drop}
 use Rattle.number.specs.Limits.{capital}
 use Rattle.meaning.specs.Re.{Re}
-use Rattle.meaning.specs.Normal.{cat, alt, star}
+use Rattle.meaning.specs.Normal.{cat, alt, star, both, negated}
 use Rattle.meaning.specs.Limited.{Fit, _>>=_, fit}
 use Rattle.meaning.specs.Limited.Fit.{Fits}
 use Rattle.book.specs.declared.Node.{Node}
-use Rattle.book.specs.declared.Node.the-variants.{Nothing, Empty, Range, Cat, Alt, Star, Either}
+use Rattle.book.specs.declared.Node.the-variants.{Nothing, Empty, Range, Cat, Alt, Star, Either, And, Not}
 use Rattle.book.specs.Book.{takes}
 use Rattle.book.specs.Expression.{top}
 
@@ -34,6 +34,8 @@ nodeTerm Cat a b = cat a b
 nodeTerm Alt a b = alt a b
 nodeTerm Star a b = star b
 nodeTerm (Either x) a b = alt (large x) (small x)
+nodeTerm And a b = both a b
+nodeTerm Not a b = negated b
 
 -- with the limit
 abbrev pub made : Node → Re → Re → Fit

@@ -6,16 +6,18 @@ use mathlib.Core.Path.{_≡_, refl, sym, _∙_}
 use mathlib.Core.Bool.{Bool, true, false, cond}
 use mathlib.Core.List.{List, [], _∷_}
 use lib.ListN.{length, drop}
+use Rattle.meaning.specs.declared.Join.the-variants.{Or, Both}
 use Rattle.meaning.specs.Re.{Re, size}
+use Rattle.meaning.specs.Normal.{cat, alt, star, both, negated}
 use Rattle.meaning.specs.Limited.{Fit, _>>=_, short, fit, normalFit}
 use Rattle.meaning.specs.Limited.Fit.{Long, Fits}
 use Rattle.meaning.specs.Shape.{InShape}
-use Rattle.meaning.specs.ShapeLaws.{shape-cat, shape-alt, shape-star}
+use Rattle.meaning.specs.ShapeLaws.{shape-cat, shape-formed, shape-star, shape-negated}
 use Rattle.book.specs.declared.Node.{Node}
-use Rattle.book.specs.declared.Node.the-variants.{Nothing, Empty, Range, Cat, Alt, Star, Either}
+use Rattle.book.specs.declared.Node.the-variants.{Nothing, Empty, Range, Cat, Alt, Star, Either, And, Not}
 use Rattle.book.specs.Book.{Rule, takes}
 use Rattle.book.specs.Valid.{Leaves, ValidRule}
-use Rattle.book.specs.Expression.{stacked, runNodes, top, expression}
+use Rattle.book.specs.Expression.{one, two, stacked, runNodes, top, expression}
 use Rattle.book.specs.ExpressionLaws.{stacked-length}
 use Rattle.rule.specs.RunFit.{second, large, small, nodeTerm, made, runFit}
 
@@ -36,59 +38,85 @@ each-drop zero ps = ps
 each-drop (suc k) none = none
 each-drop (suc k) (more p ps) = each-drop k ps
 
--- a node puts one term in the place of those that it takes
+-- an operator puts one term in the place of those that it takes
+one-is : (f : Re → Re) (es : List Re) → 1 ≤ length es → one f es ≡ top (one f es) ∷ drop 1 es
+one-is f [] h = absurd (omega arith)
+one-is f (a ∷ es) h = refl
+
+two-is : (f : Re → Re → Re) (es : List Re) → 2 ≤ length es → two f es ≡ top (two f es) ∷ drop 2 es
+two-is f [] h = absurd (omega arith)
+two-is f (b ∷ []) h = absurd (omega arith)
+two-is f (b ∷ a ∷ es) h = refl
+
+-- and so does any node
 stacked-is : (n : Node) (es : List Re) → takes n ≤ length es → stacked n es ≡ top (stacked n es) ∷ drop (takes n) es
 unfolding stacked
 stacked-is Nothing es h = refl
 stacked-is Empty es h = refl
 stacked-is (Range lo hi) es h = refl
-stacked-is Cat [] h = absurd (omega arith)
-stacked-is Cat (b ∷ []) h = absurd (omega arith)
-stacked-is Cat (b ∷ a ∷ es) h = refl
-stacked-is Alt [] h = absurd (omega arith)
-stacked-is Alt (b ∷ []) h = absurd (omega arith)
-stacked-is Alt (b ∷ a ∷ es) h = refl
-stacked-is Star [] h = absurd (omega arith)
-stacked-is Star (b ∷ es) h = refl
+stacked-is Cat es h = two-is Re.Cat es h
+stacked-is Alt es h = two-is Re.Alt es h
+stacked-is Star es h = one-is Re.Star es h
 stacked-is (Either x) es h = refl
+stacked-is And es h = two-is Re.And es h
+stacked-is Not es h = one-is Re.Not es h
 
--- and that one's limited normal form is made of theirs
+-- the limited normal form of an operator's term is made of its parts' by another, which joins terms in normal form
+abbrev Strict : (Re → Re) → (Re → Re) → Type 0
+Strict f g = (a : Re) → normalFit (f a) ≡ (normalFit a >>= λ x. fit (g x))
+
+abbrev StrictTwo : (Re → Re → Re) → (Re → Re → Re) → Type 0
+StrictTwo f g = (a b : Re) → normalFit (f a b) ≡ (normalFit a >>= λ x. normalFit b >>= λ y. fit (g x y))
+
+one-made : (f g : Re → Re) → Strict f g → {es vs : List Re} → Each es vs → 1 ≤ length es → normalFit (top (one f es)) ≡ fit (g (top vs))
+one-made f g strict none h = absurd (omega arith)
+one-made f g strict (more {e} p ps) h = rw (strict e, p)
+
+two-made : (f g : Re → Re → Re) → StrictTwo f g → {es vs : List Re} → Each es vs → 2 ≤ length es
+    → normalFit (top (two f es)) ≡ fit (g (second vs) (top vs))
+two-made f g strict none h = absurd (omega arith)
+two-made f g strict (more p none) h = absurd (omega arith)
+two-made f g strict (more {e = b} p (more {e = a} q ps)) h = rw (strict a b, q, p)
+
+-- so is that of what a node puts
 made-is : (n : Node) {es vs : List Re} → Each es vs → takes n ≤ length es → normalFit (top (stacked n es)) ≡ made n (second vs) (top vs)
 unfolding stacked normalFit size
 made-is Nothing ps h = refl
 made-is Empty ps h = refl
 made-is (Range lo hi) ps h = refl
-made-is Cat none h = absurd (omega arith)
-made-is Cat (more p none) h = absurd (omega arith)
-made-is Cat (more p (more q ps)) h = rw (q, p)
-made-is Alt none h = absurd (omega arith)
-made-is Alt (more p none) h = absurd (omega arith)
-made-is Alt (more p (more q ps)) h = rw (q, p)
-made-is Star none h = absurd (omega arith)
-made-is Star (more p ps) h = rw p
+made-is Cat ps h = two-made Re.Cat cat (λ a b. refl) ps h
+made-is Alt ps h = two-made Re.Alt alt (λ a b. refl) ps h
+made-is Star ps h = one-made Re.Star star (λ a. refl) ps h
 made-is (Either x) ps h = refl
+made-is And ps h = two-made Re.And both (λ a b. refl) ps h
+made-is Not ps h = one-made Re.Not negated (λ a. refl) ps h
 
 -- a second part that is too long makes the whole so, whatever the first is
 long-second : (m : Fit) → (m >>= λ a. Long) ≡ Long
 long-second Long = refl
 long-second (Fits a) = refl
 
+some-one : (f g : Re → Re) → Strict f g → {es : List Re} → Some es → 1 ≤ length es → Some (one f es)
+some-one f g strict (here a es p) h = here (f a) es (rw (strict a, p))
+some-one f g strict (later o) h = later o
+
+some-two : (f g : Re → Re → Re) → StrictTwo f g → {es : List Re} → Some es → 2 ≤ length es → Some (two f es)
+some-two f g strict (here b [] p) h = absurd (omega arith)
+some-two f g strict (here b (a ∷ es) p) h = here (f a b) es (rw (strict a b, p) (long-second (normalFit a)))
+some-two f g strict (later {e = b} (here a es p)) h = here (f a b) es (rw (strict a b, p))
+some-two f g strict (later (later o)) h = later o
+
 some-stacked : (n : Node) {es : List Re} → Some es → takes n ≤ length es → Some (stacked n es)
 unfolding stacked normalFit
 some-stacked Nothing o h = later o
 some-stacked Empty o h = later o
 some-stacked (Range lo hi) o h = later o
-some-stacked Cat (here b [] p) h = absurd (omega arith)
-some-stacked Cat (here b (a ∷ es) p) h = here (Re.Cat a b) es (rw p (long-second (normalFit a)))
-some-stacked Cat (later {e} (here a es p)) h = here (Re.Cat a e) es (rw p)
-some-stacked Cat (later (later o)) h = later o
-some-stacked Alt (here b [] p) h = absurd (omega arith)
-some-stacked Alt (here b (a ∷ es) p) h = here (Re.Alt a b) es (rw p (long-second (normalFit a)))
-some-stacked Alt (later {e} (here a es p)) h = here (Re.Alt a e) es (rw p)
-some-stacked Alt (later (later o)) h = later o
-some-stacked Star (here a es p) h = here (Re.Star a) es (rw p)
-some-stacked Star (later o) h = later o
+some-stacked Cat o h = some-two Re.Cat cat (λ a b. refl) o h
+some-stacked Alt o h = some-two Re.Alt alt (λ a b. refl) o h
+some-stacked Star o h = some-one Re.Star star (λ a. refl) o h
 some-stacked (Either x) o h = later o
+some-stacked And o h = some-two Re.And both (λ a b. refl) o h
+some-stacked Not o h = some-one Re.Not negated (λ a. refl) o h
 
 -- ---- all nodes
 
@@ -151,9 +179,11 @@ node-shape Nothing a b s t = tt
 node-shape Empty a b s t = tt
 node-shape (Range lo hi) a b s t = tt
 node-shape Cat a b s t = shape-cat a b (s (omega arith)) (t (omega arith))
-node-shape Alt a b s t = shape-alt a b (s (omega arith)) (t (omega arith))
+node-shape Alt a b s t = shape-formed Or tt a b (s (omega arith)) (t (omega arith))
 node-shape Star a b s t = shape-star b (t (omega arith))
-node-shape (Either x) a b s t = shape-alt (large x) (small x) tt tt
+node-shape (Either x) a b s t = shape-formed Or tt (large x) (small x) tt tt
+node-shape And a b s t = shape-formed Both tt a b (s (omega arith)) (t (omega arith))
+node-shape Not a b s t = shape-negated b (t (omega arith))
 
 pub made-held : (n : Node) (a b v : Re) → (2 ≤ takes n → InShape a) → (1 ≤ takes n → InShape b) → made n a b ≡ Fits v → Held v
 made-held n a b v s t e = fit-held (nodeTerm n a b) v (node-shape n a b s t) e

@@ -8,12 +8,13 @@ use lib.ListN.{length, getD, drop}
 use Rattle.number.specs.Limits.{nodes, workCells, scratch}
 use Rattle.number.specs.Refused.{Answer}
 use Rattle.number.specs.Refused.Answer.{got, refused}
+use Rattle.meaning.specs.declared.Join.the-variants.{Or, Both}
 use Rattle.meaning.specs.Re.{Re}
 use Rattle.meaning.specs.Normal.{alt}
 use Rattle.meaning.specs.Limited.{short, normalFit}
 use Rattle.meaning.specs.Shape.{InShape}
 use Rattle.book.specs.declared.Node.{Node}
-use Rattle.book.specs.declared.Node.the-variants.{Nothing, Empty, Range, Cat, Alt, Star, Either}
+use Rattle.book.specs.declared.Node.the-variants.{Nothing, Empty, Range, Cat, Alt, Star, Either, And, Not}
 use Rattle.book.specs.Book.{Book, takes, writeNodes}
 use Rattle.book.specs.Reads.{moreNodes, readBook}
 use Rattle.book.specs.Valid.{Within, Leaves}
@@ -25,7 +26,7 @@ use Rattle.term.specs.Places.{termsAt}
 use Rattle.normal.specs.declared.Built.{Built}
 use Rattle.normal.specs.declared.Made.{Made}
 use Rattle.normal.specs.Asked.{mostMembers, catCells}
-use Rattle.choice.specs.Asked.{altCells}
+use Rattle.merged.specs.Asked.{mergeCells}
 use Rattle.normal.specs.Made.{MadeBy}
 use Rattle.rule.specs.RunFit.{large, small, nodeTerm, made, runFit}
 
@@ -70,9 +71,11 @@ nodeCells Nothing a b = 1
 nodeCells Empty a b = 1
 nodeCells (Range lo hi) a b = 1
 nodeCells Cat a b = catCells a b
-nodeCells Alt a b = altCells a b
+nodeCells Alt a b = mergeCells Or a b
 nodeCells Star a b = 1
 nodeCells (Either x) a b = 3
+nodeCells And a b = mergeCells Both a b
+nodeCells Not a b = 1
 
 abbrev pub nodeRoom : ℕ
 nodeRoom = 2 * mostMembers

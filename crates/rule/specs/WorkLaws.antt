@@ -15,7 +15,7 @@ use Rattle.meaning.specs.Re.{Re}
 use Rattle.meaning.specs.Limited.{_>>=_, normalFit}
 use Rattle.meaning.specs.Limited.Fit.{Long, Fits}
 use Rattle.book.specs.declared.Node.{Node}
-use Rattle.book.specs.declared.Node.the-variants.{Nothing, Empty, Range, Cat, Alt, Star, Either}
+use Rattle.book.specs.declared.Node.the-variants.{Nothing, Empty, Range, Cat, Alt, Star, Either, And, Not}
 use Rattle.book.specs.declared.RulePlace.{RulePlace}
 use Rattle.book.specs.Book.{takes, writeNode, writeNodes, writeRules}
 use Rattle.book.specs.Reads.{readNode}
@@ -134,6 +134,8 @@ made-same Cat p q = rw (p (omega arith), q (omega arith))
 made-same Alt p q = rw (p (omega arith), q (omega arith))
 made-same Star p q = rw (q (omega arith))
 made-same (Either x) p q = refl
+made-same And p q = rw (p (omega arith), q (omega arith))
+made-same Not p q = rw (q (omega arith))
 
 -- an item is one after a growth
 item-kept : {s s′ : List ℕ} {top top′ : ℕ} (i : ℕ) → Sound s top → GrownFree pending s top s′ top′ → Item s top i → Item s′ top′ i

@@ -7,6 +7,7 @@ ghost use Rattle.term.specs.Area.{pending, Room};
 ghost use Rattle.rule.specs.Work.{Has, RuleMade, eitherCells, nodeRoom, Operands, EitherBuilt, NodeBuilt, NodeMade};
 use book::Node;
 use book::NodeRead;
+use meaning::Join;
 use normal::Built;
 use normal::Made;
 use number::limits::CAPITAL;
@@ -24,7 +25,7 @@ fn either_built(cells: &mut [u64], top: usize, letter: usize) -> Built
     let capital = letter - CAPITAL;
     let second = term::push(cells, top, Term::Range(capital, capital));
     let third = term::push(cells, second, Term::Range(letter, letter));
-    choice::alt(cells, third, top, second)
+    merged::merge(cells, third, top, second, Join::Or)
 }
 
 // What a node makes of the term on top of the stack, `b`, and the one below it, `a`; one that takes fewer ignores the others.
@@ -37,9 +38,11 @@ fn node_built(cells: &mut [u64], top: usize, node: Node, a: usize, b: usize) -> 
         Node::Empty => normal::store(cells, top, Term::Empty),
         Node::Range(lo, hi) => normal::store(cells, top, Term::Range(lo, hi)),
         Node::Cat => normal::cat(cells, top, a, b),
-        Node::Alt => choice::alt(cells, top, a, b),
+        Node::Alt => merged::merge(cells, top, a, b, Join::Or),
         Node::Star => normal::star(cells, top, b),
         Node::Either(letter) => either_built(cells, top, letter),
+        Node::And => merged::merge(cells, top, a, b, Join::Both),
+        Node::Not => normal::negated(cells, top, b),
     }
 }
 

@@ -16,7 +16,7 @@ use Rattle.meaning.specs.Re.{Re, isNothing, isEmpty}
 use Rattle.meaning.specs.PartLaws.{All}
 use Rattle.meaning.specs.Derive.{nullable}
 use Rattle.term.specs.declared.Term.{Term}
-use Rattle.term.specs.declared.Term.the-variants.{Nothing, Empty, Range, Cat, Alt, Star}
+use Rattle.term.specs.declared.Term.the-variants.{Nothing, Empty, Range, Cat, Alt, Star, And, Not}
 use Rattle.term.specs.Cells.{fieldSize, kindSize, first, second, bitPlace, linkOf, emptyOf, nodeOf, grow, termBy, term, Below, Layered, Sound}
 use Rattle.term.specs.Area.{Wasted, GrownFree, Grown, Room, MakesFree, Makes}
 use Rattle.term.specs.Nodes.{kindOf, firstOf, secondOf, childrenOf, Fields, cellOf, nothingNode, emptyNode, Found, Over, Held}
@@ -71,6 +71,8 @@ below-fields (Range lo hi) i h b = record { first = omega arith; second = omega 
 below-fields (Cat l r) i h b = record { first = omega arith; second = omega arith }
 below-fields (Alt l r) i h b = record { first = omega arith; second = omega arith }
 below-fields (Star l) i h b = record { first = omega arith; second = omega arith }
+below-fields (And l r) i h b = record { first = omega arith; second = omega arith }
+below-fields (Not l) i h b = record { first = omega arith; second = omega arith }
 
 -- ---- terms by their cells
 
@@ -117,6 +119,8 @@ found-nothing s i u f = rw (f .is) (go u)
     go (Cat a b) = refl
     go (Alt a b) = refl
     go (Star a) = refl
+    go (And a b) = refl
+    go (Not a) = refl
 
 pub found-empty : (s : List ℕ) (i : ℕ) (u : Term) → Found s i u → isEmpty (term s i) ≡ emptyNode u
 found-empty s i u f = rw (f .is) (go u)
@@ -128,6 +132,8 @@ found-empty s i u f = rw (f .is) (go u)
     go (Cat a b) = refl
     go (Alt a b) = refl
     go (Star a) = refl
+    go (And a b) = refl
+    go (Not a) = refl
 
 -- ---- the area and its growth
 

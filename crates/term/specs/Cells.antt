@@ -10,7 +10,7 @@ use Rattle.number.specs.Limits.{lastByte, workCells}
 use Rattle.meaning.specs.Re.{Re}
 use Rattle.meaning.specs.Derive.{nullable}
 use Rattle.term.specs.declared.Term.{Term}
-use Rattle.term.specs.declared.Term.the-variants.{Nothing, Empty, Range, Cat, Alt, Star}
+use Rattle.term.specs.declared.Term.the-variants.{Nothing, Empty, Range, Cat, Alt, Star, And, Not}
 
 -- what a field can hold: any number of a cell
 abbrev pub fieldSize : ℕ
@@ -52,7 +52,9 @@ rebuilt kind a b =
     (cond (eqb kind 3) (Cat a b)
     (cond (eqb kind 4) (Alt a b)
     (cond (eqb kind 5) (Star a)
-    Nothing))))
+    (cond (eqb kind 6) (And a b)
+    (cond (eqb kind 7) (Not a)
+    Nothing))))))
 
 -- the node in a cell
 unfoldable pub nodeOf : ℕ → Term
@@ -66,6 +68,8 @@ grow (Range lo hi) child = Re.Range lo hi
 grow (Cat a b) child = Re.Cat (child a) (child b)
 grow (Alt a b) child = Re.Alt (child a) (child b)
 grow (Star a) child = Re.Star (child a)
+grow (And a b) child = Re.And (child a) (child b)
+grow (Not a) child = Re.Not (child a)
 
 -- the term in cell i, going down at most so many steps, and going down as far as need be
 unfoldable pub termBy : ℕ → List ℕ → ℕ → Re
@@ -83,6 +87,8 @@ Below (Range lo hi) i = (lo ≤ lastByte) × (hi ≤ lastByte)
 Below (Cat a b) i = (a < i) × (b < i)
 Below (Alt a b) i = (a < i) × (b < i)
 Below (Star a) i = a < i
+Below (And a b) i = (a < i) × (b < i)
+Below (Not a) i = a < i
 
 -- all cells below top hold such nodes
 abbrev pub Layered : List ℕ → ℕ → Type 0

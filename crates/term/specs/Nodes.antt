@@ -9,7 +9,7 @@ use lib.Dec.{eqb}
 use lib.ListN.{getD, take}
 use Rattle.meaning.specs.Re.{parts}
 use Rattle.term.specs.declared.Term.{Term}
-use Rattle.term.specs.declared.Term.the-variants.{Nothing, Empty, Range, Cat, Alt, Star}
+use Rattle.term.specs.declared.Term.the-variants.{Nothing, Empty, Range, Cat, Alt, Star, And, Not}
 use Rattle.term.specs.declared.Order.{Order}
 use Rattle.term.specs.declared.Order.the-variants.{Less, Equal, Greater}
 use Rattle.term.specs.Cells.{fieldSize, packed, linkOf, nodeOf, grow, term, Below, Sound}
@@ -23,6 +23,8 @@ kindOf (Range lo hi) = 2
 kindOf (Cat a b) = 3
 kindOf (Alt a b) = 4
 kindOf (Star a) = 5
+kindOf (And a b) = 6
+kindOf (Not a) = 7
 
 -- its fields; a kind that lacks one has 0 for it
 abbrev pub firstOf : Term → ℕ
@@ -32,6 +34,8 @@ firstOf (Range lo hi) = lo
 firstOf (Cat a b) = a
 firstOf (Alt a b) = a
 firstOf (Star a) = a
+firstOf (And a b) = a
+firstOf (Not a) = a
 
 abbrev pub secondOf : Term → ℕ
 secondOf Nothing = 0
@@ -40,6 +44,8 @@ secondOf (Range lo hi) = hi
 secondOf (Cat a b) = b
 secondOf (Alt a b) = b
 secondOf (Star a) = 0
+secondOf (And a b) = b
+secondOf (Not a) = 0
 
 -- how many children it has, and which: the first ones of its fields
 abbrev pub arityOf : Term → ℕ
@@ -49,6 +55,8 @@ arityOf (Range lo hi) = 0
 arityOf (Cat a b) = 2
 arityOf (Alt a b) = 2
 arityOf (Star a) = 1
+arityOf (And a b) = 2
+arityOf (Not a) = 1
 
 abbrev pub childrenOf : Term → List ℕ
 childrenOf u = take (arityOf u) (firstOf u ∷ secondOf u ∷ [])

@@ -3,7 +3,7 @@
 use Prim.Native.Nat.{ℕ, _+_, _<_, _≤_, compare, Ordering·lt, Ordering·eq, Ordering·gt}
 use native.Mathlib.Omega.{arith}
 use mathlib.Core.Path.{_≡_, refl, sym, ap, _∙_}
-use mathlib.Core.Bool.{true, false}
+use mathlib.Core.Bool.{true, false, not, _&&_}
 use mathlib.Core.List.{List, [], _∷_, map}
 use lib.ListN.{take}
 use Rattle.meaning.specs.Re.{Re, parts, size, sizes}
@@ -13,7 +13,7 @@ use Rattle.meaning.specs.OrderLaws.{compared, compare-is, also-eq, order-parts,
 use Rattle.meaning.specs.OrderLaws.Compared.{less, equal, more}
 use Rattle.meaning.specs.Derive.{nullable}
 use Rattle.term.specs.declared.Term.{Term}
-use Rattle.term.specs.declared.Term.the-variants.{Nothing, Empty, Range, Cat, Alt, Star}
+use Rattle.term.specs.declared.Term.the-variants.{Nothing, Empty, Range, Cat, Alt, Star, And, Not}
 use Rattle.term.specs.Cells.{kindSize, rebuilt, grow, term, Below}
 use Rattle.term.specs.Nodes.{kindOf, firstOf, secondOf, arityOf, childrenOf, Found, OnePart, TwoParts}
 
@@ -26,6 +26,8 @@ kind-most (Range lo hi) = omega arith
 kind-most (Cat a b) = omega arith
 kind-most (Alt a b) = omega arith
 kind-most (Star a) = omega arith
+kind-most (And a b) = omega arith
+kind-most (Not a) = omega arith
 
 pub rank-grow : (u : Term) (f : ℕ → Re) → rank (grow u f) ≡ kindOf u
 rank-grow Nothing f = refl
@@ -34,6 +36,8 @@ rank-grow (Range lo hi) f = refl
 rank-grow (Cat a b) f = refl
 rank-grow (Alt a b) f = refl
 rank-grow (Star a) f = refl
+rank-grow (And a b) f = refl
+rank-grow (Not a) f = refl
 
 -- a node is the one of its kind over its fields
 pub rebuild : (u : Term) → u ≡ rebuilt (kindOf u) (firstOf u) (secondOf u)
@@ -43,6 +47,8 @@ rebuild (Range lo hi) = refl
 rebuild (Cat a b) = refl
 rebuild (Alt a b) = refl
 rebuild (Star a) = refl
+rebuild (And a b) = refl
+rebuild (Not a) = refl
 
 pub of-kind : (u : Term) (k : ℕ) → kindOf u ≡ k → u ≡ rebuilt k (firstOf u) (secondOf u)
 of-kind u k e = rw (← e) (rebuild u)
@@ -55,6 +61,8 @@ arity-most (Range lo hi) = omega arith
 arity-most (Cat a b) = omega arith
 arity-most (Alt a b) = omega arith
 arity-most (Star a) = omega arith
+arity-most (And a b) = omega arith
+arity-most (Not a) = omega arith
 
 pub arity-kind : (u : Term) → arityOf u ≡ arityOf (rebuilt (kindOf u) 0 0)
 arity-kind Nothing = refl
@@ -63,6 +71,8 @@ arity-kind (Range lo hi) = refl
 arity-kind (Cat a b) = refl
 arity-kind (Alt a b) = refl
 arity-kind (Star a) = refl
+arity-kind (And a b) = refl
+arity-kind (Not a) = refl
 
 -- the terms of its children are the parts of its term
 pub parts-grow : (u : Term) (f : ℕ → Re) → parts (grow u f) ≡ map f (childrenOf u)
@@ -72,6 +82,8 @@ parts-grow (Range lo hi) f = refl
 parts-grow (Cat a b) f = refl
 parts-grow (Alt a b) f = refl
 parts-grow (Star a) f = refl
+parts-grow (And a b) f = refl
+parts-grow (Not a) f = refl
 
 -- where it may stand, they stand below
 pub below-children : (u : Term) (i : ℕ) → Below u i → All (λ j. j < i) (childrenOf u)
@@ -81,6 +93,8 @@ below-children (Range lo hi) i b = tt
 below-children (Cat l r) i b = (b .0, (b .1, tt))
 below-children (Alt l r) i b = (b .0, (b .1, tt))
 below-children (Star l) i b = (b, tt)
+below-children (And l r) i b = (b .0, (b .1, tt))
+below-children (Not l) i b = (b, tt)
 
 -- x and y in place of its children, and of a leaf the fields themselves
 abbrev InPlace : Term → ℕ → ℕ → Type 0
@@ -95,6 +109,8 @@ grow-rebuilt (Range lo hi) x y f g p e = let q = p refl in cc (q .0, q .1)
 grow-rebuilt (Cat a b) x y f g p e = cc
 grow-rebuilt (Alt a b) x y f g p e = cc
 grow-rebuilt (Star a) x y f g p e = cc
+grow-rebuilt (And a b) x y f g p e = cc
+grow-rebuilt (Not a) x y f g p e = cc
 
 pub below-rebuilt : (u : Term) (x y i j : ℕ) → InPlace u x y → Below u i → All (λ k. k < j) (take (arityOf u) (x ∷ y ∷ []))
     → Below (rebuilt (kindOf u) x y) j
@@ -104,6 +120,8 @@ below-rebuilt (Range lo hi) x y i j p b h = let q = p refl in rw (q .0, q .1) b
 below-rebuilt (Cat l r) x y i j p b h = (h .0, h .1 .0)
 below-rebuilt (Alt l r) x y i j p b h = (h .0, h .1 .0)
 below-rebuilt (Star l) x y i j p b h = h .0
+below-rebuilt (And l r) x y i j p b h = (h .0, h .1 .0)
+below-rebuilt (Not l) x y i j p b h = h .0
 
 -- so it is the same term wherever its children are, and may stand wherever they are below
 own : (u : Term) → InPlace u (firstOf u) (secondOf u)
@@ -187,13 +205,17 @@ module _ (f : ℕ → Re) {u : Term} where
   unfolding nullable
   star-null e = rw e
 
-  pub cat-null-on : {a b : ℕ} → u ≡ Cat a b → nullable (f a) ≡ true → nullable (f b) ≡ nullable (grow u f)
+  pub cat-null : {a b : ℕ} → u ≡ Cat a b → (nullable (f a) && nullable (f b)) ≡ nullable (grow u f)
   unfolding nullable
-  cat-null-on e d = rw (e, d)
+  cat-null e = rw e
 
-  pub cat-null-off : {a b : ℕ} → u ≡ Cat a b → nullable (f a) ≡ false → false ≡ nullable (grow u f)
+  pub and-null : {a b : ℕ} → u ≡ And a b → (nullable (f a) && nullable (f b)) ≡ nullable (grow u f)
   unfolding nullable
-  cat-null-off e d = rw (e, d)
+  and-null e = rw e
+
+  pub not-null : {a : ℕ} → u ≡ Not a → not (nullable (f a)) ≡ nullable (grow u f)
+  unfolding nullable
+  not-null e = rw e
 
   pub alt-null-on : {a b : ℕ} → u ≡ Alt a b → nullable (f a) ≡ true → true ≡ nullable (grow u f)
   unfolding nullable
@@ -203,12 +225,9 @@ module _ (f : ℕ → Re) {u : Term} where
   unfolding nullable
   alt-null-off e d = rw (e, d)
 
--- a node whose kind was told is a Cat, an Alt
-pub found-cat : {s : List ℕ} {i : ℕ} {u : Term} {x y : ℕ} → Found s i u → kindOf u ≡ 3 → x ≡ firstOf u → y ≡ secondOf u → Found s i (Cat x y)
-found-cat {s} {i} {u} {x} {y} f e p q = found-as (Cat x y) f (rw (p, q) (of-kind u 3 e))
-
-pub found-alt : {s : List ℕ} {i : ℕ} {u : Term} {x y : ℕ} → Found s i u → kindOf u ≡ 4 → x ≡ firstOf u → y ≡ secondOf u → Found s i (Alt x y)
-found-alt {s} {i} {u} {x} {y} f e p q = found-as (Alt x y) f (rw (p, q) (of-kind u 4 e))
+-- a node whose kind was told is the one of that kind over its fields
+pub found-kind : {s : List ℕ} {i : ℕ} {u : Term} {k x y : ℕ} → Found s i u → kindOf u ≡ k → x ≡ firstOf u → y ≡ secondOf u → Found s i (rebuilt k x y)
+found-kind {s} {i} {u} {k} {x} {y} f e p q = found-as (rebuilt k x y) f (rw (p, q) (of-kind u k e))
 
 -- ---- order
 
@@ -233,6 +252,8 @@ order-leaves (Range lo hi) v f a b a′ b′ e h p q p′ q′ =
 order-leaves (Cat l r) v f a b a′ b′ e h p q p′ q′ = absurd (omega arith)
 order-leaves (Alt l r) v f a b a′ b′ e h p q p′ q′ = absurd (omega arith)
 order-leaves (Star l) v f a b a′ b′ e h p q p′ q′ = absurd (omega arith)
+order-leaves (And l r) v f a b a′ b′ e h p q p′ q′ = absurd (omega arith)
+order-leaves (Not l) v f a b a′ b′ e h p q p′ q′ = absurd (omega arith)
 
 -- a term by itself
 pub order-one : (s : List ℕ) (i j : ℕ) → i ≡ j → order (term s i) (term s j) ≡ Ordering·eq

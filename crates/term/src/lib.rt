@@ -1,7 +1,7 @@
 // Terms in a lent work area of cells: nodes read and stored, counted, tested for the empty text, compared.
 // A node is an enum by value; a child's number is below its parent's, so that going down ends.
 ghost use mathlib.Core.Path.{_≡_};
-ghost use mathlib.Core.Bool.{true};
+ghost use mathlib.Core.Bool.{true, _&&_};
 ghost use Prim.Native.Nat.{_+_, _<_, compare};
 ghost use lib.Dec.{eqb};
 ghost use lib.ListN.{length, getD};
@@ -23,6 +23,8 @@ pub enum Term {
     Cat(usize, usize),
     Alt(usize, usize),
     Star(usize),
+    And(usize, usize),
+    Not(usize),
 }
 
 // How one thing stands to another in an order.
@@ -54,6 +56,10 @@ pub const ALT: usize = 4;
 
 pub const STAR: usize = 5;
 
+pub const AND: usize = 6;
+
+pub const NOT: usize = 7;
+
 // Room for the places that wait while a short term is gone through: for each a node was seen, and one is still to be seen.
 pub const WAITING: usize = (TREE_NODES + 1) / 2;
 
@@ -75,6 +81,12 @@ pub fn rebuilt(kind: usize, first: usize, second: usize) -> Term
     }
     if kind == STAR {
         return Term::Star(first);
+    }
+    if kind == AND {
+        return Term::And(first, second);
+    }
+    if kind == NOT {
+        return Term::Not(first);
     }
     Term::Nothing
 }
@@ -101,6 +113,8 @@ pub fn kind_of(t: Term) -> usize
         Term::Cat(_, _) => CAT,
         Term::Alt(_, _) => ALT,
         Term::Star(_) => STAR,
+        Term::And(_, _) => AND,
+        Term::Not(_) => NOT,
     }
 }
 
@@ -114,6 +128,8 @@ pub fn first_of(t: Term) -> usize
         Term::Cat(a, _) => a,
         Term::Alt(a, _) => a,
         Term::Star(a) => a,
+        Term::And(a, _) => a,
+        Term::Not(a) => a,
     }
 }
 
@@ -127,6 +143,8 @@ pub fn second_of(t: Term) -> usize
         Term::Cat(_, b) => b,
         Term::Alt(_, b) => b,
         Term::Star(_) => 0,
+        Term::And(_, b) => b,
+        Term::Not(_) => 0,
     }
 }
 
@@ -141,6 +159,8 @@ pub fn arity(t: Term) -> usize
         Term::Cat(_, _) => 2,
         Term::Alt(_, _) => 2,
         Term::Star(_) => 1,
+        Term::And(_, _) => 2,
+        Term::Not(_) => 1,
     }
 }
 
@@ -198,6 +218,15 @@ pub fn nullable(cells: &[u64], i: usize) -> bool
     cells[i] / BIT_PLACE % 2 == 1
 }
 
+// Whether two terms both do.
+fn both_nullable(cells: &[u64], a: usize, b: usize) -> bool
+    requires { ⌜ Sound (now cells) (a + 1) ⌝ }
+    requires { ⌜ Sound (now cells) (b + 1) ⌝ }
+    ensures { λ r. ⌜ r ≡ (matchesEmpty (term (now (cells .entry)) a) && matchesEmpty (term (now (cells .entry)) b)) ⌝ }
+{
+    nullable(cells, a) && nullable(cells, b)
+}
+
 // Whether the term of a node does, by the bits of its children.
 fn node_nullable(cells: &[u64], node: Term) -> bool
     requires { ⌜ Over (now cells) node ⌝ }
@@ -207,9 +236,11 @@ fn node_nullable(cells: &[u64], node: Term) -> bool
         Term::Nothing => false,
         Term::Empty => true,
         Term::Range(_, _) => false,
-        Term::Cat(a, b) => nullable(cells, a) && nullable(cells, b),
+        Term::Cat(a, b) => both_nullable(cells, a, b),
         Term::Alt(a, b) => nullable(cells, a) || nullable(cells, b),
         Term::Star(_) => true,
+        Term::And(a, b) => both_nullable(cells, a, b),
+        Term::Not(a) => !nullable(cells, a),
     }
 }
 

@@ -16,7 +16,7 @@ use Rattle.meaning.specs.Re.{Re, Text}
 use Rattle.meaning.specs.Lang.{Same}
 use Rattle.meaning.specs.Means.{Matches}
 use Rattle.book.specs.declared.Node.{Node}
-use Rattle.book.specs.declared.Node.the-variants.{Nothing, Empty, Range, Cat, Alt, Star, Either}
+use Rattle.book.specs.declared.Node.the-variants.{Nothing, Empty, Range, Cat, Alt, Star, Either, And, Not}
 use Rattle.book.specs.Book.{Rule, Book, codeOf, takes, total, writeFields, writeNode, writeNodes, writeRule, writeRules, writeBook}
 use Rattle.book.specs.Valid.{InFields, Leaves, ValidRule, AllValid, ValidBook}
 use Rattle.book.specs.Expression.{runNodes, top, expression}
@@ -114,6 +114,8 @@ fields-long Cat h = omega arith
 fields-long Alt h = omega arith
 fields-long Star h = omega arith
 fields-long (Either x) h = omega (arith, wide x (omega arith))
+fields-long And h = omega arith
+fields-long Not h = omega arith
 
 node-long : (n : Node) → InFields n → length (writeNode n) ≤ 5
 unfolding writeNode

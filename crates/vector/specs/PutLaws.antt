@@ -12,7 +12,7 @@ use lib.ListN.{length, take, set, length-set}
 use lib.Seq.{take-suc-set, getD-set-other}
 use Rattle.number.specs.Limits.{rules, treeNodes}
 use Rattle.meaning.specs.Re.{Re, parts, size, sizes}
-use Rattle.meaning.specs.Re.Re.{Nothing, Empty, Range, Cat, Alt, Star}
+use Rattle.meaning.specs.Re.Re.{Nothing, Empty, Range, Cat, Alt, Star, And, Not}
 use Rattle.meaning.specs.PartLaws.{All, size-parts}
 use Rattle.meaning.specs.Limited.{Fit, short}
 use Rattle.meaning.specs.Shape.{InShape}
@@ -43,6 +43,8 @@ shape-parts (Range lo hi) s = tt
 shape-parts (Cat a b) s = (s .0, (s .1, tt))
 shape-parts (Alt a b) s = (s .0, (s .1, tt))
 shape-parts (Star a) s = (s .0, tt)
+shape-parts (And a b) s = (s .0, (s .1, tt))
+shape-parts (Not a) s = (s .0, tt)
 
 part-shape : {x : Re} {rs : List Re} → PartOf x rs → All InShape rs → InShape x
 part-shape (PartOf.here e) s = rw e (s .0)

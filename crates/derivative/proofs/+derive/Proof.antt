@@ -10,7 +10,7 @@ use Rattle.term.specs.Nodes.{Found}
 use Rattle.term.specs.CellLaws.{found}
 use Rattle.normal.specs.AnswerLaws.{Got, got}
 use Rattle.derivative.specs.Derives.{derivCells, restFit, restCells, bothSides}
-use Rattle.derivative.specs.DeriveLaws.{leaf-asks, leaf-up, Parts, parts, first-asks, first-long, rest-asks, rest-long, both-asks, both-told, left-alone, second-asks, second-long, choice-asks, choice-up}
+use Rattle.derivative.specs.DeriveLaws.{leaf-asks, leaf-up, Parts, parts, first-asks, first-long, rest-asks, rest-long, both-asks, both-told, left-alone, second-asks, second-long, merge-asks, merge-up}
 use borrow.Author.Needs.{needs}
 use Prim.Native.Nat.{ℕ, _<_}
 use borrow.Fn.Kinds.{In}
@@ -19,10 +19,11 @@ use Rattle.derivative.proofs.derive.Reads as derive
 use Rattle.derivative.proofs.derive.Kinds as derive-kinds
 use Rattle.derivative.proofs.+derive.Lts-derive as derive-lts
 use Rattle.derivative.proofs.both_sides.Reads as both-sides-reads
+use Rattle.derivative.proofs.join_of.Reads as join-of-reads
 use Rattle.derivative.proofs.leaf_left.Reads as leaf-left-reads
 use Rattle.derivative.proofs.rest_of.Reads as rest-of-reads
 use Rattle.derivative.proofs.with_rest.Reads as with-rest-reads
-use Rattle.choice.proofs.alt_short.Reads as alt-short-reads
+use Rattle.merged.proofs.merge_short.Reads as merge-short-reads
 use Rattle.normal.proofs.store.Reads as store-reads
 use Rattle.term.proofs.arity.Reads as arity-reads
 use Rattle.term.proofs.first_of.Reads as first-of-reads
@@ -63,8 +64,10 @@ K t = (
   with-rest-reads.Learnt,
   both-sides-reads.Asked,
   both-sides-reads.Learnt,
-  alt-short-reads.Asked,
-  alt-short-reads.Learnt,
+  join-of-reads.Asked,
+  join-of-reads.Learnt,
+  merge-short-reads.Asked,
+  merge-short-reads.Learnt,
 )
 
 module _ (t : ℕ) where
@@ -147,7 +150,7 @@ module _ (t : ℕ) where
       (derivFit (byte (read (first l))) (term (memory-2 l) (rest (read (first l))))) (derivCells (term (memory-2 l) (rest (read (first l)))))
   db c = got (c .before .before .before .before .derive2 .ensures) (c .db .given .1)
 
-  -- and where the second side's derivative is asked for, it is a choice
+  -- and where the second side's derivative is asked for, it is joined
   both : (c : Chosen) → let n = read (first (left c)) in bothSides (kind n) (term (memory n) (a n)) ≡ true
   both c =
       let l = left c in
@@ -212,19 +215,22 @@ module _ (t : ℕ) where
       second-long (start n .pre .1) (has n) (byte n) (da (first l)) (led l) (both yes)
       (c .before .before .before .before .derive2 .ensures) (c .enum-told3 .given .1)
 
-  alt-short-requires : derive-lts.Need-alt-short-requires (K t) (derive-at t) derive.Post
-  alt-short-requires c κs =
-      let yes = chosen (c .before .before) in
+  merge-short-requires : derive-lts.Need-merge-short-requires (K t) (derive-at t) derive.Post
+  merge-short-requires c κs =
+      let d = c .before .before .before in
+      let yes = chosen d in
       let l = left yes in
       let n = read (first l) in
-      choice-asks (start n .pre .1) (has n) (byte n) (da (first l)) (led l) (both yes) (db (c .before .before))
+      merge-asks (start n .pre .1) (has n) (byte n) (da (first l)) (led l) (both yes) (db d) (c .join-of .ensures)
 
   returns-5 : derive-lts.Need-returns-5 (K t) (derive-at t) derive.Post
   returns-5 c =
-      let d = c .before .before .before .before .before in
+      let j = c .before .before .before in
+      let d = j .before .before .before in
       let l = left (chosen d) in
       let n = read (first l) in
-      choice-up (start n .pre .1) (has n) (byte n) (da (first l)) (led l) (both (chosen d)) (db d) (c .before .before .alt-short .ensures)
+      merge-up (start n .pre .1) (has n) (byte n) (da (first l)) (led l) (both (chosen d)) (db d) (j .join-of .ensures)
+      (c .before .before .merge-short .ensures)
 
   returns-6 : derive-lts.Need-returns-6 (K t) (derive-at t) derive.Post
   returns-6 c =
@@ -239,4 +245,4 @@ pub +derive-spec : {M : Type 1} → statement M
     (λ c κs. search needs) (λ c κs. search needs) (λ c κs. search needs) (derive-requires t) (λ c. search needs) (λ c. search needs) (λ c. search needs)
     (returns-2 t) (with-rest-requires t) (λ c. search needs) (λ c. search needs) (λ c. search needs) (returns-3 t)
     (both-sides-requires t) (derive-requires-2 t) (λ c. search needs) (λ c. search needs) (λ c. search needs) (returns-4 t)
-    (alt-short-requires t) (λ c. search needs) (returns-5 t) (λ c. search needs) (returns-6 t)
+    (λ c κs. search needs) (merge-short-requires t) (λ c. search needs) (returns-5 t) (λ c. search needs) (returns-6 t)

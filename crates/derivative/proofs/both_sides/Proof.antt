@@ -11,8 +11,11 @@ nullable-requires c κs = search needs
 returns : tie.Need-returns
 returns c = rw (eq-eqb _ 3 (c .before .if1 .taken)) (c .nullable .ensures)
 
+sided-requires : tie.Need-sided-requires
+sided-requires c κs = search needs
+
 returns-2 : tie.Need-returns-2
-returns-2 c = rw (ne-eqb _ 3 (c .if1 .left))
+returns-2 c = rw (ne-eqb _ 3 (c .before .if1 .left)) (c .sided .ensures)
 
 pub both-sides-spec : {M : Type 1} → statement M
-both-sides-spec = tie.close (tie.spec nullable-requires returns returns-2)
+both-sides-spec = tie.close (tie.spec nullable-requires returns sided-requires returns-2)

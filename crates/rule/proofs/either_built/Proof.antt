@@ -17,8 +17,8 @@ push-requires-2 c κs =
     let p = c .before .before .before .push .ensures in
     (p .makes .grown .sound, (omega (arith, p .after, p .makes .grown .same-length), (omega arith, omega arith)))
 
-alt-requires : tie.Need-alt-requires
-alt-requires c κs =
+merge-requires : tie.Need-merge-requires
+merge-requires c κs =
     letters-ask (c .before .before .before .before .before .before .before .before .before .before .pre .1 .0)
     (c .before .before .before .before .before .before .before .push .ensures) (c .before .before .before .push2 .ensures)
 
@@ -30,9 +30,9 @@ returns c =
     let past = c .before .before .before in
     letters-built (past .before .before .before .before .before .before .before .before .before .before .pre .1 .0)
     (past .before .before .before .before .before .before .before .push .ensures) (past .before .before .before .push2 .ensures)
-    (c .before .before .alt .ensures)
+    (c .before .before .merge .ensures)
 
 pub either-built-spec : {M : Type 1} → statement M
 either-built-spec =
     tie.close
-    (tie.spec sub-capital push-requires push-requires-2 alt-requires same-length returns)
+    (tie.spec sub-capital push-requires push-requires-2 merge-requires same-length returns)

@@ -1,8 +1,8 @@
 -- `rule::node_built` meets its contract: one arm a node, each a call whose answer is the node's.
 -- Assumes nothing.
 use native.Mathlib.Omega.{arith}
-use Rattle.book.specs.declared.Node.the-variants.{Nothing, Empty, Range, Cat, Alt, Star, Either}
-use Rattle.rule.specs.NodeLaws.{node-within, node-room, cat-asks, alt-asks, star-asks, node-as}
+use Rattle.book.specs.declared.Node.the-variants.{Nothing, Empty, Range, Cat, Alt, Star, Either, And, Not}
+use Rattle.rule.specs.NodeLaws.{node-within, node-room, cat-asks, merge-asks, one-asks, node-as}
 use borrow.Author.Needs.{needs}
 use Rattle.rule.proofs.node_built.Statement.{statement}
 use Rattle.rule.proofs.node_built.Tie as tie
@@ -37,8 +37,8 @@ cat-requires c κs = cat-asks (c .before .before .before .before .pre) (c .befor
 enum-told-4 : tie.Need-enum-told-4
 enum-told-4 c = search needs
 
-alt-requires : tie.Need-alt-requires
-alt-requires c κs = alt-asks (c .before .before .before .before .pre) (c .before .enum-told4 .given .1)
+merge-requires : tie.Need-merge-requires
+merge-requires c κs = merge-asks (c .before .before .before .before .pre) _ tt Alt (c .before .enum-told4 .given .1) (omega arith)
 
 enum-told-5 : tie.Need-enum-told-5
 enum-told-5 c = search needs
@@ -46,7 +46,7 @@ enum-told-5 c = search needs
 star-requires : tie.Need-star-requires
 star-requires c κs =
     let o = c .before .before .before .before .pre in
-    (o .sound, (star-asks o (c .before .enum-told5 .given .1), node-room o))
+    (o .sound, (one-asks o Star (c .before .enum-told5 .given .1) (omega arith), node-room o))
 
 enum-known-node-2 : tie.Need-enum-known-node-2
 enum-known-node-2 c = search needs
@@ -56,6 +56,20 @@ either-built-requires c κs =
     let o = c .before .before .before .before .before .pre in
     let w = node-within o (Either _) (c .before .before .node2 .given .1) in
     (o .sound, (omega (arith, o .room), w .1))
+
+enum-told-6 : tie.Need-enum-told-6
+enum-told-6 c = search needs
+
+merge-requires-2 : tie.Need-merge-requires-2
+merge-requires-2 c κs = merge-asks (c .before .before .before .before .pre) _ tt And (c .before .enum-told6 .given .1) (omega arith)
+
+enum-told-7 : tie.Need-enum-told-7
+enum-told-7 c = search needs
+
+negated-requires : tie.Need-negated-requires
+negated-requires c κs =
+    let o = c .before .before .before .before .pre in
+    (o .sound, (one-asks o Not (c .before .enum-told7 .given .1) (omega arith), node-room o))
 
 same-length : tie.Need-same-length
 same-length c = search needs
@@ -90,7 +104,7 @@ same-length-5 c = search needs
 
 returns-5 : tie.Need-returns-5
 returns-5 c =
-    node-as Alt _ _ (c .before .before .before .before .enum-told4 .given .1) (c .before .before .alt .ensures)
+    node-as Alt _ _ (c .before .before .before .before .enum-told4 .given .1) (c .before .before .merge .ensures)
 
 same-length-6 : tie.Need-same-length-6
 same-length-6 c = search needs
@@ -106,6 +120,20 @@ returns-7 : tie.Need-returns-7
 returns-7 c =
     node-as (Either _) _ _ (c .before .before .before .before .before .node2 .given .1) (c .before .before .either-built .ensures)
 
+same-length-8 : tie.Need-same-length-8
+same-length-8 c = search needs
+
+returns-8 : tie.Need-returns-8
+returns-8 c =
+    node-as And _ _ (c .before .before .before .before .enum-told6 .given .1) (c .before .before .merge2 .ensures)
+
+same-length-9 : tie.Need-same-length-9
+same-length-9 c = search needs
+
+returns-9 : tie.Need-returns-9
+returns-9 c =
+    node-as Not _ _ (c .before .before .before .before .enum-told7 .given .1) (c .before .before .negated .ensures)
+
 pub node-built-spec : {M : Type 1} → statement M
 node-built-spec =
     tie.close
@@ -119,11 +147,15 @@ node-built-spec =
     enum-told-3
     cat-requires
     enum-told-4
-    alt-requires
+    merge-requires
     enum-told-5
     star-requires
     enum-known-node-2
     either-built-requires
+    enum-told-6
+    merge-requires-2
+    enum-told-7
+    negated-requires
     same-length
     returns
     same-length-2
@@ -137,4 +169,8 @@ node-built-spec =
     same-length-6
     returns-6
     same-length-7
-    returns-7)
+    returns-7
+    same-length-8
+    returns-8
+    same-length-9
+    returns-9)

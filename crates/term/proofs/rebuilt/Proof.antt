@@ -20,16 +20,23 @@ returns-5 : tie.Need-returns-5
 returns-5 c = simp (c .if5 .taken)
 
 returns-6 : tie.Need-returns-6
-returns-6 c = simp (
-  ne-eqb _ _ (c .before .before .before .before .if1 .left),
-  ne-eqb _ _ (c .before .before .before .if2 .left),
-  ne-eqb _ _
-      (c .before .before .if3 .left),
-  ne-eqb _ _ (c .before .if4 .left),
-  ne-eqb _ _ (c .if5 .left),
+returns-6 c = simp (c .if6 .taken)
+
+returns-7 : tie.Need-returns-7
+returns-7 c = simp (c .if7 .taken)
+
+returns-8 : tie.Need-returns-8
+returns-8 c = simp (
+  ne-eqb _ _ (c .before .before .before .before .before .before .if1 .left),
+  ne-eqb _ _ (c .before .before .before .before .before .if2 .left),
+  ne-eqb _ _ (c .before .before .before .before .if3 .left),
+  ne-eqb _ _ (c .before .before .before .if4 .left),
+  ne-eqb _ _ (c .before .before .if5 .left),
+  ne-eqb _ _ (c .before .if6 .left),
+  ne-eqb _ _ (c .if7 .left),
 )
 
 pub rebuilt-spec : {M : Type 1} → statement M
 rebuilt-spec =
     tie.close
-    (tie.spec returns returns-2 returns-3 returns-4 returns-5 returns-6)
+    (tie.spec returns returns-2 returns-3 returns-4 returns-5 returns-6 returns-7 returns-8)
