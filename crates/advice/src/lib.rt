@@ -1,5 +1,7 @@
 // What the program rules tells people: of a file of typed rules that is refused, and of a book that cannot be written.
 // Each call answers the length of what it wrote; advised's specs/Advice.antt says what stands there then.
+#![tactic(auto)]
+
 ghost use Rattle.std.specs.Prelude.{◌≤◌, length};
 ghost use Rattle.number.specs.Lists.{Writes};
 ghost use Rattle.advised.specs.Advice.{unsaved, advice_of, advice_room};

@@ -1,5 +1,7 @@
 // Rule books: the types that calls on books answer with, and the nodes of a rule read one by one.
 // Readers take any bytes and promise the paper's answer for each; books are checked in the crate checking, their rules found in places.
+#![tactic(auto)]
+
 ghost use Rattle.std.specs.Prelude.{◌≡◌};
 ghost use Rattle.book.specs.Book.{allowed as allowed_of, takes as takes_of};
 ghost use Rattle.book.specs.Reads.{read_range, read_either, read_after, read_node};

@@ -1,5 +1,7 @@
 // From a rule book to a table in lent memory, or refused exactly at the stated limits.
 // The walk starts at the book's vector 0 and fills the table area; what is behind the table, and the work area, is 0 afterwards.
+#![tactic(auto)]
+
 ghost use Rattle.std.specs.Prelude.{◌≤◌, length};
 ghost use Rattle.number.specs.Limits.{states, table_cells};
 ghost use Rattle.vector.specs.Layout.{work_length};

@@ -1,5 +1,7 @@
 // The bytes that could stand at a place of a typed text: each of the 256 is tried there, and those that are not wrong are told as runs.
 // specs/Promises.antt says what each try and each run is; advised's specs/Advice.antt has the line that comes of them.
+#![tactic(auto)]
+
 ghost use Rattle.std.specs.Prelude.{◌+◌, ◌<◌, ◌≤◌, ◌≡◌, true, length, take};
 ghost use Rattle.number.specs.Lists.{Writes};
 ghost use Rattle.number.specs.Limits.{bytes, rules_file};

@@ -1,5 +1,7 @@
 // Rule books checked whole, and refused exactly where document 01 says.
 // The call takes any bytes and promises the paper's answer for each; an inner function says what it asks, so that its sum fits.
+#![tactic(auto)]
+
 ghost use Rattle.std.specs.Prelude.{◌≡◌, ◌≤◌, length};
 ghost use Rattle.number.specs.Limits.{nodes};
 ghost use Rattle.number.specs.Numbers.{taken};

@@ -1,5 +1,7 @@
 // Compares words.book with words.sheet and prints whether they are the same.
 // It reads both before it looks at either, and prints all at once; what is printed is the promise of compare_lines::compare_lines.
+#![tactic(auto)]
+
 use compare_lines::COMPARE_ROOM;
 use number::limits::{BOOK_FILE, SHEET_FILE};
 

@@ -1,5 +1,7 @@
 // What program compare prints: whether book and sheet are the same, or a text on which they differ, or a refusal.
 // Files that are missing or too long are told first, then the book's faults, then the sheet's, then the walk's.
+#![tactic(auto)]
+
 ghost use Rattle.std.specs.Prelude.{◌≤◌, ◌≡◌, length};
 ghost use Rattle.number.specs.Limits.{states, table_cells, shown_text};
 ghost use Rattle.number.specs.Lists.{Writes};

@@ -1,5 +1,7 @@
 // Comparing a book with a table in lent memory: the same, or the shortest, lowest text that they cut differently.
 // A table that is not well formed is refused first, then the book; then the walk is finished, and what it found is shown.
+#![tactic(auto)]
+
 ghost use Rattle.std.specs.Prelude.{◌≤◌, length};
 ghost use Rattle.number.specs.Limits.{work_cells};
 ghost use Rattle.vector.specs.Layout.{work_length};

@@ -1,5 +1,7 @@
 // Cuts standard input by the rules of words.book and prints the words.
 // It reads both before it looks at either, and has all printed by printed::print_cut, whose promise says which bytes.
+#![tactic(auto)]
+
 use libc::STDIN_FILENO;
 use number::limits::{BOOK_FILE, TEXT_FILE};
 

@@ -1,5 +1,7 @@
 // What program cut prints, part by part in one buffer: a refusal, alone, or turn by turn a line for each word of the text and a last one.
 // Each part stands at the front of the buffer; specs/Parts.antt says what it and what is still to be printed make up together.
+#![tactic(auto)]
+
 ghost use Rattle.std.specs.Prelude.{◌+◌, ◌-◌, ◌*◌, ◌/◌, ◌^◌, ◌<◌, ◌≤◌, length};
 ghost use Rattle.number.specs.Limits.{rules, states, table_cells};
 ghost use Rattle.cutting.specs.Flat.{record_cells};

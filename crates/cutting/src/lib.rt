@@ -1,5 +1,7 @@
 // Cutting a text into words by a table in lent memory.
 // Words go into a lent list of records or into plain cells; what a cut answers and leaves is specs/Calls.antt's and specs/Flat.antt's.
+#![tactic(auto)]
+
 ghost use Rattle.std.specs.Prelude.{◌≡◌, ◌<◌, ◌≤◌, ◌+◌, ◌*◌, ◌-◌, length, drop, set};
 ghost use Rattle.number.specs.Limits.{bytes};
 ghost use Rattle.meaning.specs.Words.{better};

@@ -1,5 +1,7 @@
 // The derivative of a term by a byte, in the work area and in normal form; and the next byte at which a derivative can change.
 // Each result on the way is counted, and one of more than 255 nodes is Long.
+#![tactic(auto)]
+
 ghost use Rattle.std.specs.Prelude.{true, ◌≡◌, ◌+◌, ◌≤◌, min};
 ghost use Rattle.number.specs.Limits.{last_byte};
 ghost use Rattle.meaning.specs.Edges.{next_edge};

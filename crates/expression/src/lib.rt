@@ -1,5 +1,7 @@
 // An expression of typed rules: readers of a choice, a sequence and an atom that call each other and lay its nodes as they go.
 // Each answers the place after what it read and the count of nodes there, or the place of the first wrong byte.
+#![tactic(auto)]
+
 ghost use Rattle.std.specs.Prelude.{◌≡◌, ◌≤◌, ◌+◌, length};
 ghost use Rattle.number.specs.Limits.{nodes};
 ghost use Rattle.expression.specs.Reads.{Any, Breaks, Ends, AtomRead, SequenceRead, ChoiceRead};

@@ -1,5 +1,7 @@
 // Reading and writing by the system's calls, which the programs share: files by name, standard input and output.
 // What an answer of the system's means, and what a row of answers comes to, is proved in the crate transfer; here the calls are made.
+#![tactic(auto)]
+
 ghost use Rattle.std.specs.Prelude.{◌<◌, ◌≤◌, ◌≡◌, T, pos, length, take};
 ghost use Rattle.std.specs.Int.Signed.{lt_z};
 ghost use Rattle.files.specs.Within.{Within, Turned};

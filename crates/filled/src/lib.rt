@@ -1,5 +1,7 @@
 // A table area filled from what the walk holds: the rows of all items, those found on the way too, and their labels.
 // Only the table's front is written; the rest of the area is left to the call above.
+#![tactic(auto)]
+
 ghost use Rattle.std.specs.Prelude.{◌≡◌, ◌≤◌, length};
 ghost use Rattle.number.specs.Limits.{states};
 ghost use Rattle.number.specs.Lists.{written};

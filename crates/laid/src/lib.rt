@@ -1,5 +1,7 @@
 // The nodes of a typed expression, laid one after the other in postfix order into cells that have room for 512.
 // Past that a count stays at 513 and what is laid is lost: such a text is out of range, and only that is still asked.
+#![tactic(auto)]
+
 ghost use Rattle.std.specs.Prelude.{◌≡◌, ◌<◌, length, get_or};
 ghost use Rattle.number.specs.Limits.{nodes};
 ghost use Rattle.book.specs.declared.Node.TheVariants.{Range};

@@ -1,5 +1,7 @@
 // Our calls, exported for programs in C: each takes slices as pointer and length and packs its answer as packed's specs/Packed.antt says.
 // Every input is taken; include/lubiranguk.h is the same list of calls in C's words.
+#![tactic(auto)]
+
 ghost use Rattle.std.specs.Prelude.{◌≡◌};
 ghost use Rattle.book.specs.Calls.{check_of, kind_of};
 ghost use Rattle.table.specs.Table.{well_formed};

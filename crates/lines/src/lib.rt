@@ -1,5 +1,7 @@
 // The text that programs print, put into a lent slice by proved functions: numbers, words and whole lines.
 // Each writer answers the place after what it wrote; specs/Lines.antt says what stands there then.
+#![tactic(auto)]
+
 ghost use Rattle.std.specs.Prelude.{◌+◌, ◌-◌, ◌*◌, ◌<◌, ◌≤◌, ◌≡◌, [], ◌∷◌, length, drop};
 ghost use Rattle.number.specs.Lists.{Writes};
 ghost use Rattle.lines.specs.Digits.{digit as digit_of, decimal, hex};

@@ -1,5 +1,7 @@
 // A sheet loaded: read into the table area, with all of the area that is not its table made 0.
 // The call takes every input and leaves what table's Calls says.
+#![tactic(auto)]
+
 ghost use Rattle.table.specs.Promises.{Loads};
 
 use number::limits::{BYTES, STATES, TABLE_CELLS};

@@ -2,6 +2,8 @@
 // Code of the layers above is proved against them; this crate runs nothing.
 
 // How members are joined: one after another, as a choice, or so that a text belongs to all of them.
+#![tactic(auto)]
+
 #[derive(Drop)]
 pub enum Join {
     Then,

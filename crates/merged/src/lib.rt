@@ -1,5 +1,7 @@
 // Two terms joined as a choice or both at once, in the work area: their members in order, each once, merged by going along both.
 // All is over the operator that joins the members. A result with the limit is counted, and one of more than 255 nodes is Long.
+#![tactic(auto)]
+
 ghost use Rattle.std.specs.Prelude.{◌≡◌};
 ghost use Rattle.meaning.specs.Shape.{beside as beside_of};
 ghost use Rattle.merged.specs.Asked.{Sides, CountedSides, Meets, Unites};

@@ -1,5 +1,7 @@
 // What the bytes of typed rules are: bare ones, marks, digits, and the names of the twelve sets.
 // Nothing here changes memory; a name is found by comparing a part of the text with each of them.
+#![tactic(auto)]
+
 ghost use Rattle.std.specs.Prelude.{◌≡◌, ◌<◌, ◌≤◌, length, get_or};
 ghost use Rattle.std.proofs.Math.Seq.{slice};
 ghost use Rattle.typed.specs.Spells.{bare, hex};

@@ -1,5 +1,7 @@
 // Terms built in the work area, always in normal form: leaves, cat, star and negated on terms in normal form. What has sorted members is the crate merged's.
 // A result with the limit is counted, and one of more than 255 nodes is Long.
+#![tactic(auto)]
+
 ghost use Rattle.std.specs.Prelude.{◌≡◌, ◌+◌, ◌<◌, ◌≤◌, length};
 ghost use Rattle.term.specs.Cells.{Below, Sound};
 ghost use Rattle.term.specs.Area.{pending, Room};

@@ -1,5 +1,7 @@
 // Numbers in files, read and written, and the refusals that every call of the word cutter answers with.
 // The reader takes any bytes and any place; the field test is the one that book and sheet readers share.
+#![tactic(auto)]
+
 ghost use Rattle.std.specs.Prelude.{◌≡◌, ℕ, ◌+◌, ◌<◌, ◌≤◌, length};
 ghost use Rattle.number.specs.Limits.{three_groups};
 ghost use Rattle.number.specs.Refused.{number, place};

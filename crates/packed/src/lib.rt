@@ -1,5 +1,7 @@
 // An answer of a call as C gets it: a code, and four numbers in lent cells, as specs/Packed.antt says.
 // One function for each kind of answer; the calls for C, in the crate library, answer by them.
+#![tactic(auto)]
+
 ghost use Rattle.std.specs.Prelude.{◌≡◌};
 ghost use Rattle.number.specs.Refused.{number, place};
 ghost use Rattle.book.specs.Calls.{checked, kind_told};

@@ -1,5 +1,7 @@
 // One pair of a table's state and a vector, as an item of the walk has it: the table's state, and the number told for the pair.
 // An entry stands in front of the table, so that only non-empty texts count: item 0 is the entry and no pair.
+#![tactic(auto)]
+
 ghost use Rattle.std.specs.Prelude.{◌≡◌};
 ghost use Rattle.vector.specs.Memory.{items_of};
 ghost use Rattle.verdict.specs.Compare.{state_of, number_told};

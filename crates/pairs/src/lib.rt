@@ -1,5 +1,7 @@
 // The pairs that texts reach: the walk over a book's vectors beside a table, in the work area.
 // The walk is the build's, beside the table with an entry in front of it; it goes row by row and is finished before anything is answered.
+#![tactic(auto)]
+
 ghost use Rattle.std.specs.Prelude.{◌<◌, ◌≤◌, length};
 ghost use Rattle.number.specs.Limits.{bytes, work_cells};
 ghost use Rattle.walk.specs.Walk.{row, rows, walk_from};

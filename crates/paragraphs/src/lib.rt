@@ -1,5 +1,7 @@
 // The whole text for each refusal of a file of rules, put together of phrases and of the bytes that could stand.
 // Each writer answers the place after what it wrote; advised's specs/Advice.antt says what stands there then.
+#![tactic(auto)]
+
 ghost use Rattle.std.specs.Prelude.{◌+◌, ◌≤◌, length};
 ghost use Rattle.number.specs.Lists.{Writes};
 ghost use Rattle.number.specs.Limits.{rules_file};

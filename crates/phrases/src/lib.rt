@@ -1,5 +1,7 @@
 // Sentences and lines that people read, put into a lent buffer: words with numbers, a line of the text, a mark below one of its bytes, and names of bytes.
 // Each writer answers the place after what it wrote; advised's specs/Advice.antt says what stands there then.
+#![tactic(auto)]
+
 ghost use Rattle.std.specs.Prelude.{◌+◌, ◌≤◌, ◌≡◌, length, drop};
 ghost use Rattle.number.specs.Lists.{Writes};
 ghost use Rattle.advised.specs.Advice.{printed as printed_of, shown_line, mark_line, byte_name};

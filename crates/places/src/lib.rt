@@ -1,5 +1,7 @@
 // The rules of a book found by their number: a rule's kind, and where its nodes stand.
 // Both calls check the book first, take any bytes and any number, and promise an answer for each.
+#![tactic(auto)]
+
 ghost use Rattle.std.specs.Prelude.{◌≡◌};
 ghost use Rattle.book.specs.Answers.{place_read, read_head, find_rule, find_from, nowhere as no_place, place_of};
 ghost use Rattle.book.specs.Promises.{TellsKind};

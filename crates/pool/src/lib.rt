@@ -1,5 +1,7 @@
 // The pool of terms in the work area, and its index: a node is looked up before it is put, so that equal terms have equal numbers.
 // A node is found along the chain of its hash.
+#![tactic(auto)]
+
 ghost use Rattle.std.specs.Prelude.{◌≡◌, ◌+◌, ◌≤◌, ◌<◌, length};
 ghost use Rattle.term.specs.Cells.{term, grow, Below};
 ghost use Rattle.term.specs.Nodes.{Fields};

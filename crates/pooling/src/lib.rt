@@ -1,5 +1,7 @@
 // A term is put into the pool with all its parts, each looked up first; one that stands there already is left as it is.
 // Scratch above the pool is given up once its nodes have been copied out of it.
+#![tactic(auto)]
+
 ghost use Rattle.std.specs.Prelude.{◌+◌, ◌-◌, ◌<◌, ◌≤◌, length};
 ghost use Rattle.number.specs.Limits.{tree_nodes};
 ghost use Rattle.meaning.specs.Re.{size};

@@ -1,5 +1,7 @@
 // What program cut does with the bytes that it read: it prints a refusal, alone, or the lines of the words, turn by turn, from one small buffer.
 // A write that fails ends it at once, so that nothing is missing in the middle of what was printed, and the failure is told once.
+#![tactic(auto)]
+
 ghost use Rattle.std.specs.Prelude.{◌+◌, ◌*◌, ◌^◌, ◌<◌, ◌≤◌, ◌≡◌, length};
 ghost use Rattle.number.specs.Limits.{text_file};
 ghost use Rattle.cutting.specs.Flat.{record_cells};

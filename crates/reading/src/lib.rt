@@ -1,5 +1,7 @@
 // A sheet read into lent memory, state by state and run by run, each cell written as it is read.
 // Each reader follows its definition of table's Sheet and requires room for what it reads; what a refused one has left is not told.
+#![tactic(auto)]
+
 ghost use Rattle.std.specs.Prelude.{◌+◌, ◌*◌, ◌≤◌, length};
 ghost use Rattle.number.specs.Limits.{states, bytes, table_cells};
 ghost use Rattle.table.specs.Sheet.{read_runs, read_states, read_sheet};

@@ -1,5 +1,7 @@
 // One row of a table: the walk goes on from one item, byte by byte, and the numbers that it comes to are the row's 256 targets.
 // A row goes run by run: one derivative for each run of bytes that no range tells apart.
+#![tactic(auto)]
+
 ghost use Rattle.std.specs.Prelude.{◌<◌};
 ghost use Rattle.pool.specs.Index.{Indexed};
 ghost use Rattle.steps.specs.Step.{Follows};

@@ -1,5 +1,7 @@
 // The normal form of a rule, built in the work area from the rule's nodes as they stand in the book's bytes.
 // The nodes are worked off with a stack of cells; each result is counted, and one that is too long ends the work.
+#![tactic(auto)]
+
 ghost use Rattle.std.specs.Prelude.{◌+◌, ◌≤◌};
 ghost use Rattle.number.specs.Limits.{first_letter, last_letter, scratch};
 ghost use Rattle.term.specs.Cells.{Sound};

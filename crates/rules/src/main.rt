@@ -1,5 +1,7 @@
 // Reads the typed rules of words.rules and writes their book to words.book; it prints only what is refused, and on standard error why.
 // All of it is done in the crate saved; here it gets the name of its file and the output for people.
+#![tactic(auto)]
+
 use libc::STDERR_FILENO;
 use number::limits::RULES_FILE;
 

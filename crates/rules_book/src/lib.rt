@@ -1,5 +1,7 @@
 // The book that the program rules writes to words.book, made on slices of the bytes of its file.
 // specs/Print.antt says which book that is, or which refusal.
+#![tactic(auto)]
+
 ghost use Rattle.std.specs.Prelude.{◌≤◌, length};
 ghost use Rattle.number.specs.Limits.{typed_area};
 ghost use Rattle.rules_book.specs.Print.{MakesBook};

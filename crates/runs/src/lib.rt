@@ -1,5 +1,7 @@
 // Rows of a table as a sheet has them, each as its runs: first how long a row will be, then its bytes.
 // Each function follows its definition of table's Sheet over a part of the lent targets; writing puts rows together to a sheet.
+#![tactic(auto)]
+
 ghost use Rattle.std.specs.Prelude.{◌≡◌, ◌+◌, ◌≤◌, ◌<◌, length};
 ghost use Rattle.std.proofs.Math.Seq.{slice};
 ghost use Rattle.number.specs.Limits.{bytes};

@@ -1,5 +1,7 @@
 // What the programs rules and sheet do with the bytes that they read: they save a book, or a sheet, in its file, or print the refusal.
 // A refusal leaves the file as it was, since nothing is saved before the bytes are there, as rules_book and sheet_bytes promise them.
+#![tactic(auto)]
+
 ghost use Rattle.std.specs.Prelude.{◌≤◌, length};
 ghost use Rattle.saved.specs.Made.{Makes};
 

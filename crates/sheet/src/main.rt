@@ -1,5 +1,7 @@
 // Builds the table of words.book and writes it to words.sheet; it prints only what is refused.
 // All that it does with the bytes of its book is done in the crate saved; here they are read.
+#![tactic(auto)]
+
 use number::limits::BOOK_FILE;
 
 fn main() {

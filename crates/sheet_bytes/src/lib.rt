@@ -1,5 +1,7 @@
 // What program sheet puts out: the sheet of the table that a book builds, for its file; or a refusal's line, to be printed.
 // Both stand at the front of one buffer, and the answer tells which it is.
+#![tactic(auto)]
+
 ghost use Rattle.std.specs.Prelude.{◌≤◌, length};
 ghost use Rattle.number.specs.Limits.{states, table_cells};
 ghost use Rattle.number.specs.Refused.Outcome.{refuses};

@@ -1,5 +1,7 @@
 // What is shown once the walk is finished: the first pair whose labels differ, by the shortest, lowest text that leads to it.
 // The text is read back from item to item, each with the byte that led to it.
+#![tactic(auto)]
+
 ghost use Rattle.std.specs.Prelude.{◌≡◌, ◌+◌, ◌≤◌, length};
 ghost use Rattle.number.specs.Lists.{Writes};
 ghost use Rattle.vector.specs.Memory.{text_of};

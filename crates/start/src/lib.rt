@@ -1,5 +1,7 @@
 // Vector 0, put into the pool book by book: each rule's normal form is built in scratch above the pool and then put into it.
 // The places past the last rule hold Nothing's cell, so that vectors of the same books can be compared place by place.
+#![tactic(auto)]
+
 ghost use Rattle.std.specs.Prelude.{◌+◌, ◌≤◌, length};
 ghost use Rattle.number.specs.Limits.{rules, work_cells};
 ghost use Rattle.pool.specs.Index.{Indexed};

@@ -1,5 +1,7 @@
 // One step of the walk over vectors in the work area, for building and comparing: from an item by a byte to a held item or a new one.
 // Its tests stand in the order of the refusals: Long; for a new item the limit of items, and then the pool.
+#![tactic(auto)]
+
 ghost use Rattle.walk.specs.Walk.{step};
 ghost use Rattle.pool.specs.Index.{Indexed};
 ghost use Rattle.vector.specs.Memory.{held_of, First};

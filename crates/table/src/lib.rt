@@ -1,5 +1,7 @@
 // Tables in lent memory: labels hold one cell a state and targets 256. Whether they are a table is tested here; sheets are read
 // and written in the crates loading and writing, which answer by the types of this one.
+#![tactic(auto)]
+
 ghost use Rattle.std.specs.Prelude.{◌≡◌, ℕ, ◌-◌, ◌≤◌, ltb, length, take, replicate};
 ghost use Rattle.number.specs.Lists.{written};
 ghost use Rattle.table.specs.Table.{all};

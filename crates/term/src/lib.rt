@@ -1,5 +1,7 @@
 // Terms in a lent work area of cells: nodes read and stored, counted, tested for the empty text, compared.
 // A node is an enum by value; a child's number is below its parent's, so that going down ends.
+#![tactic(auto)]
+
 ghost use Rattle.std.specs.Prelude.{◌≡◌, true, ◌&&◌, eqb, length, get_or};
 ghost use Prim.Native.Nat.{◌+◌, ◌<◌, compare};
 ghost use Rattle.meaning.specs.Derive.{nullable as matches_empty};

@@ -1,5 +1,7 @@
 // Builds each stored book, cuts the stored text by its table, compares the book with the stored sheet, and prints what came.
 // Cases and expected output were made by the model in model/, which knows nothing of this code; docs/CASES.md says what they are.
+#![tactic(auto)]
+
 ghost use Rattle.std.specs.Prelude.{◌≤◌, ◌≡◌, length};
 ghost use Rattle.number.specs.Limits.{table_cells};
 ghost use Rattle.table.specs.Formed.{longest_sheet};

@@ -2,6 +2,8 @@
 // After most files that are saved, or not, it shows the file, or whether a new file was left beside it.
 
 // One byte more than a file may have here.
+#![tactic(auto)]
+
 const ROOM: usize = 9;
 
 fn say(text: &[u8]) {

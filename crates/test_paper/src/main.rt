@@ -1,5 +1,7 @@
 // Runs the lines of document 01 that are to be run and compared, and prints what came of each: a label, then the answer.
 // A case is a line of data/cases, which says how it is read; the file stdout beside src/ has what the paper says, worked out by hand.
+#![tactic(auto)]
+
 ghost use Rattle.std.specs.Prelude.{◌≡◌, length};
 
 use number::limits::{STATES, TABLE_CELLS};

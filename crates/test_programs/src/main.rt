@@ -1,5 +1,7 @@
 // Prints what the programs cut, compare and sheet print on stored inputs, each under a line that names the case.
 // A name with no file stands for a missing file, and `folder` for a file that cannot be read. Of sheet it shows words.sheet after each book, in hexadecimal.
+#![tactic(auto)]
+
 ghost use Rattle.std.specs.Prelude.{◌+◌, ◌*◌, ◌≤◌, ◌≡◌, length};
 ghost use Rattle.table.specs.Formed.{longest_sheet};
 

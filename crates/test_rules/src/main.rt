@@ -1,5 +1,7 @@
 // Makes the books of stored texts one after the other, as the program rules does, and shows words.book after each; at first there is none.
 // What rules tells people on standard error is printed with the rest. A name with no file stands for a missing file.
+#![tactic(auto)]
+
 ghost use Rattle.std.specs.Prelude.{◌≤◌, length};
 ghost use Rattle.number.specs.Limits.{book_file};
 

@@ -1,5 +1,7 @@
 // Types each stored text of rules and prints what came: the book in hex, or the refusal; and whether a byte changed that should not.
 // Texts and expected output were made by the model in model/, which knows nothing of this code.
+#![tactic(auto)]
+
 ghost use Rattle.std.specs.Prelude.{◌≤◌, length};
 
 use libc::STDOUT_FILENO;

@@ -1,5 +1,7 @@
 // How the bytes of a buffer come in or go out: what the system answered to one call, and how far a transfer has come by its answers.
 // On numbers alone, without any call: specs/Answers.antt says what each answer means, specs/Main.antt what a row of answers comes to.
+#![tactic(auto)]
+
 ghost use Rattle.std.specs.Prelude.{◌≤◌, ◌≡◌};
 ghost use Rattle.transfer.specs.Answers.{answer_of, go_on, taken_of, is_all};
 

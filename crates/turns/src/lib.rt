@@ -1,5 +1,7 @@
 // A turn of a cut: a text is cut into so many records, and the lines of its words are put at the front of a buffer.
 // specs/Turned.antt says what a turn puts; that the turns together put what one would is specs/RestLaws.antt's of the crate cut_lines.
+#![tactic(auto)]
+
 ghost use Rattle.std.specs.Prelude.{◌+◌, ◌-◌, ◌*◌, ◌/◌, ◌^◌, ◌<◌, ◌≤◌, ◌≡◌, length, get_or};
 ghost use Rattle.number.specs.Lists.{Writes};
 ghost use Rattle.cutting.specs.Flat.{record_cells};

@@ -1,5 +1,7 @@
 // Rules typed as text become a rule book: each line is read, its rule is written to a book in memory of our own, and a whole book goes to the output.
 // The call takes every text and every area; a refusal leaves the output as it was.
+#![tactic(auto)]
+
 ghost use Rattle.std.specs.Prelude.{◌≡◌, ◌+◌, ◌≤◌, ◌<◌, length, take};
 ghost use Rattle.number.specs.Limits.{rules, kinds, nodes, typed_area};
 ghost use Rattle.number.specs.Lists.{Writes};

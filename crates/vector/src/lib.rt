@@ -1,5 +1,7 @@
 // Vectors of 32 terms by value: compared, stored and loaded, labelled, and derived place by place in the work area.
 // A derived term is built in scratch, put into the pool, and its number taken: equal vectors have equal numbers.
+#![tactic(auto)]
+
 ghost use Rattle.std.specs.Prelude.{◌≡◌, ◌≤◌, length, drop, replicate};
 ghost use Rattle.vector.specs.Layout.{items, work_length};
 ghost use Rattle.number.specs.Limits.{last_byte};

@@ -1,5 +1,7 @@
 // A table written as its sheet: first how long the sheet will be, then its bytes.
 // Each function follows its definition of table's Sheet over a part of the lent table; write_sheet is the call, and takes every input.
+#![tactic(auto)]
+
 ghost use Rattle.std.specs.Prelude.{◌≡◌, ◌+◌, ◌*◌, ◌≤◌, length};
 ghost use Rattle.std.proofs.Math.Seq.{slice};
 ghost use Rattle.number.specs.Limits.{states, bytes};
