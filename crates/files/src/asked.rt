@@ -4,7 +4,7 @@ use libc::EINTR;
 use transfer::INTERRUPTIONS;
 
 // To open the file of a name for reading, to make one, or to bring the file of a descriptor to its device.
-#[derive(Drop)]
+#[derive(Clone, Copy)]
 pub(crate) enum Ask {
     Open,
     Make,
