@@ -12,7 +12,7 @@ pub const EINTR: i32 = 4;
 pub const INTERRUPTIONS: u32 = 1_000_000;
 
 // What one call came to: it moved so many bytes, there were none to move, a signal came first, or it failed.
-#[derive(Drop)]
+#[derive(Clone, Copy)]
 pub enum Answer {
     Moved(usize),
     Nothing,
@@ -22,7 +22,7 @@ pub enum Answer {
 
 // How far a transfer has come: so many bytes have been moved and so many interruptions may still come; or it is over, with the whole buffer
 // moved, or with so many bytes, fewer than the buffer has, after which there were no more; or it failed.
-#[derive(Drop)]
+#[derive(Clone, Copy)]
 pub enum Transfer {
     Going(usize, u32),
     All,
