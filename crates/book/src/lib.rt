@@ -14,7 +14,7 @@ use number::limits::{
 use number::{Refusal, Taken, read_field, read_number};
 
 // A node of a rule, in postfix order: one of nine kinds, of which books of version 1 have all but And and Not.
-#[derive(Drop)]
+#[derive(Clone, Copy)]
 pub enum Node {
     Nothing,
     Empty,
@@ -28,14 +28,14 @@ pub enum Node {
 }
 
 // How many rules a book has and how many nodes in all, or why it is refused.
-#[derive(Drop)]
+#[derive(Clone, Copy)]
 pub enum Checked {
     Counts(usize, usize),
     Refused(Refusal),
 }
 
 // A rule's kind, or that the book has no such rule, or why the book is refused.
-#[derive(Drop)]
+#[derive(Clone, Copy)]
 pub enum RuleKind {
     Kind(usize),
     NoRule,
@@ -43,14 +43,14 @@ pub enum RuleKind {
 }
 
 // A node and the place after it, or why there is none.
-#[derive(Drop)]
+#[derive(Clone, Copy)]
 pub enum NodeRead {
     At(Node, usize),
     Refused(Refusal),
 }
 
 // Its book's version, a rule's kind, how many nodes it has, and the place of the first.
-#[derive(Drop)]
+#[derive(Clone, Copy)]
 pub struct RulePlace {
     pub version: usize,
     pub kind: usize,
@@ -59,7 +59,7 @@ pub struct RulePlace {
 }
 
 // Where a rule's nodes begin, or why there is no such place.
-#[derive(Drop)]
+#[derive(Clone, Copy)]
 pub enum PlaceRead {
     Place(RulePlace),
     Refused(Refusal),

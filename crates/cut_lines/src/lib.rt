@@ -25,7 +25,7 @@ pub const TURN_CELLS: usize = RECORD_CELLS * TURN_WORDS;
 pub const CUT_ROOM: usize = LINE_ROOM * (TURN_WORDS + 1);
 
 // How it begins: a refusal's line stands in the buffer and ends there, or a table of so many states was built.
-#[derive(Drop)]
+#[derive(Clone, Copy)]
 pub enum Begun {
     Told(usize),
     States(usize),

@@ -20,7 +20,7 @@ use number::limits::BYTES;
 pub const RECORD_CELLS: usize = 3;
 
 // A word: where it starts, how many bytes it has, and its rule.
-#[derive(Drop)]
+#[derive(Clone, Copy)]
 pub struct Word {
     pub start: usize,
     pub len: usize,
@@ -28,7 +28,7 @@ pub struct Word {
 }
 
 // How a cut ended: with so many words; stuck or full, with so many words and the place; or why it was refused.
-#[derive(Drop)]
+#[derive(Clone, Copy)]
 pub enum Ended {
     Done(usize),
     Stuck(usize, usize),
@@ -37,28 +37,28 @@ pub enum Ended {
 }
 
 // The first word at a place: its length and its rule.
-#[derive(Drop)]
+#[derive(Clone, Copy)]
 pub enum Next {
     Word(usize, usize),
     None,
 }
 
 // Where a cut goes on: the place in the text, and the table's dead state, in which the walk for a word stops.
-#[derive(Drop)]
+#[derive(Clone, Copy)]
 struct Place {
     pub at: usize,
     pub dead: usize,
 }
 
 // Where the bytes that stay in a state end, and the state that the byte there leads to: the dead one where the text ends.
-#[derive(Drop)]
+#[derive(Clone, Copy)]
 struct Run {
     pub end: usize,
     pub then: usize,
 }
 
 // One step of a cut: a word to store and the place after it, or the cut's answer.
-#[derive(Drop)]
+#[derive(Clone, Copy)]
 struct Step {
     pub go: bool,
     pub word: Word,

@@ -12,7 +12,7 @@ use names::{BEGUN, NO_HEX, SETS, byte_at};
 use number::limits::LAST_BYTE;
 
 // The place after what was read and the count of nodes, or the place of the wrong byte.
-#[derive(Drop)]
+#[derive(Clone, Copy)]
 pub enum Read {
     At(usize, usize),
     Wrong(usize),

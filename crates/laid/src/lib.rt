@@ -30,7 +30,7 @@ pub const ALT: u32 = CODE_ALT as u32;
 const STAR: u32 = CODE_STAR as u32;
 
 // A range of bytes.
-#[derive(Drop)]
+#[derive(Clone, Copy)]
 struct Span {
     pub lo: u8,
     pub hi: u8,

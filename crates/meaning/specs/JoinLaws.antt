@@ -1,6 +1,6 @@
 -- What an operator joins, by kind once: which terms they are, an induction by members, and what gathering and nesting do to one term more.
 -- A kind more or an operator more is a line more here, and none in what is proved by these.
-use Rattle.std.specs.Prelude.{◌+◌, ◌≡◌, refl, false, List, [], ◌∷◌, ◌++◌}
+use Rattle.std.specs.Prelude.{◌+◌, ◌≡◌, refl, cond, false, List, [], ◌∷◌, ◌++◌, flat_map}
 use Rattle.std.proofs.Common.{arith, ap, ◌∙◌, append-nil}
 use Rattle.meaning.specs.Re.{Re, parts, size, sizes, is_nothing}
 use Rattle.meaning.specs.Re.Re.{Nothing, Empty, Range, Cat, Alt, Star, And, Not}
@@ -73,7 +73,7 @@ gathered_joined Both a b = ap (λ (xs : List Re). gathered Both a ++ xs) (append
 
 pub gathered_alone : (j : Join) (r : Re) → joins j r ≡ false → gathered j r ≡ r ∷ []
 unfolding gathered
-gathered_alone j r e = upward_parts _ r ∙ rw e
+gathered_alone j r e = upward_parts (λ (x : Re) (ms : List (List Re)). cond (joins j x) (flat_map (λ (m : List Re). m) ms) (x ∷ [])) r ∙ rw e
 
 pub gathered_more : (j : Join) (x xs : Re) → joins j x ≡ false → gathered j (joined j x xs) ≡ x ∷ gathered j xs
 gathered_more j x xs e = rw (gathered_joined j x xs, gathered_alone j x e)

@@ -4,7 +4,7 @@
 // How members are joined: one after another, as a choice, or so that a text belongs to all of them.
 #![tactic(auto)]
 
-#[derive(Drop)]
+#[derive(Clone, Copy)]
 pub enum Join {
     Then,
     Or,

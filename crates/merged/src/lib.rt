@@ -14,7 +14,7 @@ use term::{Order, Term, compare_terms, first_of, is_nothing, node_at, second_of}
 
 // How the merge of two terms' members goes on, by the first ones: it stands in a cell; it is a member and the rest, in two cells;
 // or it is a member, in the first cell, before the merge of two terms.
-#[derive(Drop)]
+#[derive(Clone, Copy)]
 enum Next {
     Whole(usize),
     Pair(usize, usize),

@@ -14,14 +14,14 @@ use meaning::Join;
 use term::{ALT, AND, CAT, NOT, STAR, Term};
 
 // The cell of a term that was built, with the next free cell.
-#[derive(Drop)]
+#[derive(Clone, Copy)]
 pub struct Built {
     pub root: usize,
     pub top: usize,
 }
 
 // The same with a limit: or that a result on the way was too long.
-#[derive(Drop)]
+#[derive(Clone, Copy)]
 pub enum Made {
     Term(usize, usize),
     Long,

@@ -15,7 +15,7 @@ pub mod limits;
 use limits::{GROUP, TWO_GROUPS};
 
 // Why an input is refused, and where. The paper gives Loaded, Room and Input no place of their own.
-#[derive(Drop)]
+#[derive(Clone, Copy)]
 pub enum Refusal {
     Short(usize),
     Number(usize),
@@ -35,14 +35,14 @@ pub enum Refusal {
 }
 
 // The answer of a reader: a value and the place after it, or the refusal.
-#[derive(Drop)]
+#[derive(Clone, Copy)]
 pub enum Taken {
     Value(usize, usize),
     Refused(Refusal),
 }
 
 // The answer of the number reader: the value and the place after it, or the refusal; and how many groups it read, be they refused or not.
-#[derive(Drop)]
+#[derive(Clone, Copy)]
 pub struct Grouped {
     pub taken: Taken,
     pub groups: usize,

@@ -13,7 +13,7 @@ use number::limits::{KINDS, NODES, RULES};
 pub const NEWLINE: u8 = 10;
 
 // A line of the text: its number, counted from 1, and the place where it starts.
-#[derive(Drop)]
+#[derive(Clone, Copy)]
 pub struct Spot {
     pub line: usize,
     pub start: usize,

@@ -20,7 +20,7 @@ pub const POOL_CELLS: usize = POOL + RULES * TREE_NODES;
 pub const HEADS: usize = POOL;
 
 // The cell of a term, and the next free cell.
-#[derive(Drop)]
+#[derive(Clone, Copy)]
 pub struct Placed {
     pub root: usize,
     pub top: usize,

@@ -16,14 +16,14 @@ use pool::{Placed, put_node};
 use term::{Term, arity, first_of, kind_of, node_at, rebuilt, second_of};
 
 // A child's number in the pool, and how many numbers are left on the stack.
-#[derive(Drop)]
+#[derive(Clone, Copy)]
 struct Child {
     pub number: usize,
     pub height: usize,
 }
 
 // A node whose children stand in the pool, and how many numbers are left on the stack.
-#[derive(Drop)]
+#[derive(Clone, Copy)]
 struct Node {
     pub node: Term,
     pub height: usize,

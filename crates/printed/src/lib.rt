@@ -17,7 +17,7 @@ use vector::layout::WORK_LENGTH;
 
 // So many bytes were written to standard output: all that there were to print; or fewer, and then a write failed. Of the bytes of that write none
 // is counted, since only the system knows how many of them were written.
-#[derive(Drop)]
+#[derive(Clone, Copy)]
 pub enum Handed {
     All(usize),
     Less(usize),

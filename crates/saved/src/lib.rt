@@ -16,7 +16,7 @@ mod sheet;
 pub use sheet::make_sheet;
 
 // What became of bytes that were read: what they make was saved, or not, or there is none. Whether a file can be written is the system's to say.
-#[derive(Drop)]
+#[derive(Clone, Copy)]
 pub enum Made {
     Saved,
     Unsaved,

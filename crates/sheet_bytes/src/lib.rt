@@ -17,7 +17,7 @@ use table::{Counted, Written};
 use vector::layout::WORK_LENGTH;
 
 // A sheet and where it ends, or a refusal and where its line of text ends.
-#[derive(Drop)]
+#[derive(Clone, Copy)]
 pub enum Put {
     Sheet(usize),
     Line(Refusal, usize),

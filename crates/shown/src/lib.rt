@@ -11,7 +11,7 @@ use vector::layout::{BYTES_AT, PARENTS_AT, SHEETS_AT};
 use verdict::Compared;
 
 // The items' labels agree; or the first item whose labels differ, the book's label and the table's.
-#[derive(Drop)]
+#[derive(Clone, Copy)]
 enum Seen {
     Alike,
     Differ(usize, usize, usize),

@@ -12,7 +12,7 @@ use number::limits::POOL;
 use vector::{Vector, derive_vector, find, load, store_item};
 
 // What a step comes to: the pool's next free cell, how many items there are and the number reached; or the refusal.
-#[derive(Drop)]
+#[derive(Clone, Copy)]
 pub enum Stepped {
     Reached(usize, usize, usize),
     Stopped(Refusal),

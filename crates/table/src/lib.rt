@@ -15,14 +15,14 @@ use number::limits::{BYTES, RULES, STATES};
 pub const LONGEST_SHEET: usize = 3 + STATES * (3 + 3 * BYTES);
 
 // The states of a table that a call filled an area with, or why it did not.
-#[derive(Drop)]
+#[derive(Clone, Copy)]
 pub enum Counted {
     States(usize),
     Refused(Refusal),
 }
 
 // The bytes of a sheet that was written, or why it was not.
-#[derive(Drop)]
+#[derive(Clone, Copy)]
 pub enum Written {
     Bytes(usize),
     Unwritten(Refusal),

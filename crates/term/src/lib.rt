@@ -15,7 +15,7 @@ ghost use Rattle.term.specs.Compares.{decides, Glanced};
 use number::limits::{TREE_NODES, WORK_CELLS};
 
 // A node of a term: a range's bounds, or the numbers of the cells of its children.
-#[derive(Drop)]
+#[derive(Clone, Copy)]
 pub enum Term {
     Nothing,
     Empty,
@@ -28,7 +28,7 @@ pub enum Term {
 }
 
 // How one thing stands to another in an order.
-#[derive(Drop)]
+#[derive(Clone, Copy)]
 pub enum Order {
     Less,
     Equal,
@@ -354,7 +354,7 @@ fn differs(order: Order) -> bool
 
 // What two nodes tell of the order of their terms: it is known, or it is that of their only children, or that of their first children
 // and then, where these are equal, of their second ones.
-#[derive(Drop)]
+#[derive(Clone, Copy)]
 enum Glance {
     Told(Order),
     One(usize, usize),

@@ -6,14 +6,14 @@ ghost use Rattle.std.specs.Prelude.{◌≡◌, ◌<◌, ◌≤◌, length};
 const STEPS: usize = 1000000;
 
 // A value read, and where it ends.
-#[derive(Drop)]
+#[derive(Clone, Copy)]
 pub(crate) struct Got {
     pub(crate) value: usize,
     pub(crate) next: usize,
 }
 
 // A case: the letter that says what is called, and its numbers.
-#[derive(Drop)]
+#[derive(Clone, Copy)]
 pub(crate) struct Case {
     pub(crate) call: u8,
     pub(crate) first: usize,
@@ -92,7 +92,7 @@ pub(crate) fn case_of(line: &[u8], call: u8, from: usize) -> Case {
 
 // Where the reading of an area stands: in the line, and behind the bytes so far; and how often the bytes in brackets
 // are still to come, and where they start.
-#[derive(Drop)]
+#[derive(Clone, Copy)]
 struct Spot {
     next: usize,
     at: usize,

@@ -13,7 +13,7 @@ use book::RuleKind;
 use cutting::{Ended, RECORD_CELLS};
 
 // How a turn ends: on from a place with so many words so far, or nothing more; and where its lines end.
-#[derive(Drop)]
+#[derive(Clone, Copy)]
 pub enum Turn {
     Onward(usize, usize, usize),
     Last(usize),

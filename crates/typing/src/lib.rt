@@ -17,21 +17,21 @@ use number::{Refusal, write_number};
 use table::Written;
 
 // A line's kind and the place after its colon, or the place of the wrong byte. A kind out of range is told as one past the limit.
-#[derive(Drop)]
+#[derive(Clone, Copy)]
 enum KindRead {
     Kind(usize, usize),
     Wrong(usize),
 }
 
 // A line's kind, how many nodes its expression has, and the place after its newline; or the place of the wrong byte.
-#[derive(Drop)]
+#[derive(Clone, Copy)]
 enum LineRead {
     Line(usize, usize, usize),
     Wrong(usize),
 }
 
 // The rules so far: how many, their nodes and their bytes; and whether a line has brought them out of range, after which none is added.
-#[derive(Drop)]
+#[derive(Clone, Copy)]
 struct Sum {
     pub rules: usize,
     pub nodes: usize,
@@ -40,7 +40,7 @@ struct Sum {
 }
 
 // All lines of a text, or the place of the wrong byte.
-#[derive(Drop)]
+#[derive(Clone, Copy)]
 enum RulesRead {
     All(Sum),
     Wrong(usize),

@@ -19,13 +19,13 @@ pub mod layout;
 use layout::{BYTES_AT, NOTHING_CELL, PARENTS_AT, SHEETS_AT, VECTORS_AT};
 
 // A vector: the numbers of its 32 terms, one for each rule.
-#[derive(Drop)]
+#[derive(Clone, Copy)]
 pub struct Vector {
     pub at: [usize; RULES],
 }
 
 // A derived vector with the pool's next free cell, or that a term on the way was too long.
-#[derive(Drop)]
+#[derive(Clone, Copy)]
 pub struct Derived {
     pub long: bool,
     pub top: usize,

@@ -5,7 +5,7 @@
 use number::Refusal;
 
 // The same; or the length of the shown text, the book's label and the table's; or why the comparison was refused.
-#[derive(Drop)]
+#[derive(Clone, Copy)]
 pub enum Compared {
     Same,
     Differs(usize, usize, usize),

@@ -39,17 +39,23 @@ module _ (n m : ℕ) (f : ℕ → ℕ) (d : Different (suc n) (suc m) f) where
       go false e = kept (eqb-false (f i) m e)
 
   moved_below : {x : ℕ} (i : ℕ) → i < n → Moves i x → x < m
-  moved_below i l (taken e) =
-      let a = d.below n (omega arith) in
-      let b : f n ≡ m → ⊥ = λ g. d.apart i n l (omega arith) (e ∙ sym g) in
-      omega arith
-  moved_below i l (kept e) = let a = d.below i (omega arith) in omega arith
+  moved_below i l h = go i l h
+    where
+      go : (i : ℕ) {x : ℕ} → i < n → Moves i x → x < m
+      go i l (taken e) =
+          let a = d.below n (omega arith) in
+          let b : f n ≡ m → ⊥ = λ g. d.apart i n l (omega arith) (e ∙ sym g) in
+          omega arith
+      go i l (kept e) = let a = d.below i (omega arith) in omega arith
 
   moved_apart : {x y : ℕ} (i j : ℕ) → i < j → j < n → Moves i x → Moves j y → x ≡ y → ⊥
-  moved_apart i j l k (taken e) (taken g) z = d.apart i j l (omega arith) (e ∙ sym g)
-  moved_apart i j l k (taken e) (kept g) z = d.apart j n k (omega arith) (sym z)
-  moved_apart i j l k (kept e) (taken g) z = d.apart i n (omega arith) (omega arith) z
-  moved_apart i j l k (kept e) (kept g) z = d.apart i j l (omega arith) z
+  moved_apart i j l k h g z = go i j l k h g z
+    where
+      go : (i j : ℕ) {x y : ℕ} → i < j → j < n → Moves i x → Moves j y → x ≡ y → ⊥
+      go i j l k (taken e) (taken g) z = d.apart i j l (omega arith) (e ∙ sym g)
+      go i j l k (taken e) (kept g) z = d.apart j n k (omega arith) (sym z)
+      go i j l k (kept e) (taken g) z = d.apart i n (omega arith) (omega arith) z
+      go i j l k (kept e) (kept g) z = d.apart i j l (omega arith) z
 
   different_less : Different n m moved
   different_less = record {

@@ -40,9 +40,12 @@ sooner_trans (shorter h) (lower e l) = shorter (omega arith)
 sooner_trans (lower e l) (shorter k) = shorter (omega arith)
 sooner_trans (lower e l) (lower d m) = lower (e ∙ d) (lower_trans l m)
 
+lower_apart : {v w : Text} → Lower v w → v ≡ w → ⊥
+lower_apart (here {c} {d} {v} {w} h) e = let g : c ≡ d = cc in omega arith
+lower_apart (later c {v} {w} l) e = lower_apart l (let g : v ≡ w = cc in g)
+
 lower_self : {w : Text} → Lower w w → ⊥
-lower_self (here h) = omega arith
-lower_self (later c l) = lower_self l
+lower_self l = lower_apart l refl
 
 pub sooner_self : {w : Text} → Sooner w w → ⊥
 sooner_self (shorter h) = omega arith

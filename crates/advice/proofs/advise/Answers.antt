@@ -1,0 +1,14 @@
+-- `advice::advise` meets its contract: a text that is too long for its file, or one that was read.
+-- Assumes nothing.
+use Rattle.advice.specs.FitLaws.{advice_fits}
+use Rattle.advised.specs.CaseLaws.{unread_told, read_told}
+use borrow.Author.Rules.{rules}
+use Rattle.advice.proofs.advise.Goals as goal
+
+pub returns-then-text-gt-RULES_FILE : goal.returns-then-text-gt-RULES_FILE
+returns-then-text-gt-RULES_FILE c =
+    advice_fits _ _ (unread_told c.args.text.now c.args.r c.if-text-gt-RULES_FILE.true) c.put_unread.ensures
+
+pub returns : goal.returns
+returns c =
+    advice_fits _ _ (read_told c.args.text.now c.args.r c.if-text-gt-RULES_FILE.false) c.put_advice.ensures

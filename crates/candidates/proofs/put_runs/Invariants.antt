@@ -1,0 +1,18 @@
+-- `candidates::put_runs` meets its contract: what is left are the runs from lo on, and the newline.
+-- Assumes nothing.
+use borrow.Author.Rules.{rules}
+use native.Mathlib.Omega.{arith}
+use Rattle.number.specs.Quoted.{quoted}
+use mathlib.Core.Path.{◌≡◌}
+use mathlib.Core.Bool.{true}
+use Prim.Native.Nat.{◌-◌, ◌<◌, ◌≤◌}
+use Rattle.phrases.specs.Left.{Left, left_all, left_room, left_step, left_some, left_last}
+use Rattle.candidates.specs.Promises.{flagged}
+use Rattle.candidates.specs.RunLaws.{runs_line, line_start, line_passed, run_room, run_more, line_end}
+use Rattle.candidates.proofs.put_runs.Given as goal
+
+abbrev pub invariant-loop-lo : goal.invariant-loop-lo
+invariant-loop-lo l = (l.lo ≤ 256) × (l.lo < 256 → flagged l.found l.lo ≡ true) × Left (runs_line l.found l.initial.lo) (runs_line l.found l.lo) l.initial.out l.out l.initial.end l.end
+
+abbrev pub decreases-loop-lo : goal.decreases-loop-lo
+decreases-loop-lo l = 256 - l.lo

@@ -1,0 +1,13 @@
+-- `candidates::try_bytes` meets its contract: every flag below c tells of its byte.
+-- Assumes nothing.
+use native.Mathlib.Omega.{arith}
+use Prim.Native.Nat.{◌-◌}
+use lib.ListN.{length-set}
+use Rattle.candidates.specs.TryLaws.{Trying, trying_none, trying_more, trying_all}
+use Rattle.candidates.proofs.try_bytes.Given as goal
+
+abbrev pub invariant-loop-c : goal.invariant-loop-c
+invariant-loop-c l = Trying l.p l.initial.tried l.initial.found l.tried l.found l.c
+
+abbrev pub decreases-loop-c : goal.decreases-loop-c
+decreases-loop-c l = 256 - l.c

@@ -1,0 +1,26 @@
+-- `checking::check_rules` meets its contract: what is left to read tells what was asked, by one law of the rules of a book a turn.
+-- The measure is the number of rules that are left. Assumes nothing.
+use Prim.Native.Nat.{ℕ, suc, ◌+◌, ◌-◌, ◌≤◌}
+use native.Mathlib.Omega.{arith}
+use mathlib.Core.Path.{◌≡◌, refl, sym, ap, ◌∙◌}
+use borrow.Author.Rules.{rules}
+use Rattle.number.specs.Limits.{nodes}
+use Rattle.number.specs.declared.Refusal.{Refusal}
+use Rattle.number.specs.Refused.Answer.{got, refused}
+use Rattle.number.specs.Numbers.{taken}
+use Rattle.number.specs.NumberLaws.{field_read}
+use Rattle.book.specs.AnswerLaws.{got_is, value_told}
+use Rattle.book.specs.CodeLaws.{counted, summed, HeadRead, rules_none, rules_kind_refused, rules_count_refused, rules_over}
+use Rattle.book.specs.CodeLaws.{rules_nodes_refused, rules_rest_refused, rules_rest_got}
+use Rattle.checking.proofs.check_rules.Given as goal
+
+-- the rest is refused as the whole is; where it is got, the whole has the nodes of the rules read before it as well
+abbrev pub invariant-loop-more : goal.invariant-loop-more
+invariant-loop-more l =
+    (l.sum ≤ nodes)
+    × ((r : Refusal) → summed l.book l.version l.more l.sum l.place ≡ refused r → summed l.book l.version l.count 0 l.at ≡ refused r)
+    × ((n all after : ℕ) → all ≡ l.sum + n → summed l.book l.version l.more l.sum l.place ≡ got n after
+    → summed l.book l.version l.count 0 l.at ≡ got all after)
+
+abbrev pub decreases-loop-more : goal.decreases-loop-more
+decreases-loop-more l = l.more

@@ -1,0 +1,18 @@
+-- `compare_lines::compare_lines` meets its contract: Input for each file, else what both files come to.
+-- Assumes nothing.
+use native.Mathlib.Omega.{arith}
+use Rattle.programs.specs.PrintLaws.{writes_as, compare_no_book, compare_no_sheet, compare_both}
+use borrow.Author.Rules.{rules}
+use Rattle.compare_lines.proofs.compare_lines.Goals as goal
+
+pub returns-then-book-gt-BOOK_FILE : goal.returns-then-book-gt-BOOK_FILE
+returns-then-book-gt-BOOK_FILE c =
+    record { writes = writes_as (compare_no_book c.args.book.now c.args.sheet.now c.if-book-gt-BOOK_FILE.true) c.put_refused.ensures.writes; upper_bound = omega (arith, c.requires, c.put_refused.ensures.upper_bound, c.put_refused.auto.1.0) }
+
+pub returns-then-sheet-gt-SHEET_FILE : goal.returns-then-sheet-gt-SHEET_FILE
+returns-then-sheet-gt-SHEET_FILE c =
+    record { writes = writes_as (compare_no_sheet c.args.book.now c.args.sheet.now c.if-book-gt-BOOK_FILE.false c.if-sheet-gt-SHEET_FILE.true) c.put_refused-then-sheet-gt-SHEET_FILE.ensures.writes; upper_bound = omega (arith, c.requires, c.put_refused-then-sheet-gt-SHEET_FILE.ensures.upper_bound, c.put_refused-then-sheet-gt-SHEET_FILE.auto.1.0) }
+
+pub returns : goal.returns
+returns c =
+    record { writes = writes_as (compare_both c.args.book.now c.args.sheet.now c.if-book-gt-BOOK_FILE.false c.if-sheet-gt-SHEET_FILE.false) c.compare_in.ensures.writes; upper_bound = c.compare_in.ensures.upper_bound }

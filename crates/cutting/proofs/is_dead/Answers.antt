@@ -1,0 +1,40 @@
+-- `cutting::is_dead` meets its contract. The loop's invariant: the flag tells whether no byte below c leads out.
+-- The measure is how many bytes are left. Assumes nothing.
+use Prim.Native.Nat.{◌+◌, ◌-◌, ◌*◌, ◌≤◌}
+use native.Mathlib.Omega.{arith}
+use mathlib.Core.Path.{◌≡◌, sym, ap, ◌∙◌}
+use mathlib.Core.Logic.{⊎_elim}
+use borrow.Author.Rules.{rules}
+use Rattle.number.specs.Limits.{bytes}
+use Rattle.cutting.specs.Dead.{keeps}
+use Rattle.cutting.specs.DeadLaws.{keeps_none, keeps_more, keeps_not, dead_not, dead_told}
+use Rattle.cutting.proofs.Byte.{wide}
+use Rattle.cutting.proofs.is_dead.Goals as goal
+
+pub returns-then-labels-state-ne0 : goal.returns-then-labels-state-ne0
+returns-then-labels-state-ne0 c = dead_not _ _ _ (λ d. c.if-labels-state-ne0.true d.unlabelled)
+
+pub overflow_cast-first : goal.overflow_cast-first
+overflow_cast-first c = wide (c.type_inv.targets _)
+
+pub returns-then-first-state : goal.returns-then-first-state
+returns-then-first-state c =
+    let start : c.args.state * bytes + 0 ≡ c.args.state * bytes = omega arith in
+    dead_not _ _ _ (λ d. c.if-first-state.true (rw start at (d.stays 0 (omega arith))))
+
+pub loop-c-init : goal.loop-c-init
+loop-c-init c = (omega arith, sym (keeps_none _ _))
+
+pub loop-c-preserved : goal.loop-c-preserved
+loop-c-preserved c = (
+  omega arith,
+  ⊎_elim
+      (λ w. w.1 ∙ keeps_not _ _ c.loop-c.c (λ e. w.0.taken (e ∙ sym c.if-first-state.false)))
+      (λ w. w.1 ∙ c.loop-c.invariant.1 ∙ keeps_more _ _ c.loop-c.c (w.0.left ∙ c.if-first-state.false))
+      c.if-targets-row.branch,
+)
+
+pub returns : goal.returns
+returns c =
+    let all : c.loop-c.c ≡ bytes = omega (arith, c.loop-c.invariant.0) in
+    c.loop-c.invariant.1 ∙ ap (keeps c.args.targets.now c.args.state) all ∙ dead_told _ _ _ c.if-labels-state-ne0.false

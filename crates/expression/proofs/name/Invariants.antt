@@ -1,0 +1,15 @@
+-- `expression::name` meets its contract: the bytes so far begin a name, and no cell has changed.
+-- Assumes nothing.
+use native.Mathlib.Omega.{arith}
+use mathlib.Core.Path.{◌≡◌, refl, ap, ◌∙◌}
+use Prim.Native.Nat.{ℕ, ◌-◌}
+use mathlib.Core.List.{List}
+use lib.ListN.{length}
+use Rattle.expression.specs.LeafLaws.{Naming, naming_none, naming_more, name_read, name_unknown, name_ends, name_from}
+use Rattle.expression.proofs.name.Given as goal
+
+abbrev pub invariant-loop-to : goal.invariant-loop-to
+invariant-loop-to l = Naming l.text l.at l.to × (l.cells ≡ l.initial.cells)
+
+abbrev pub decreases-loop-to : goal.decreases-loop-to
+decreases-loop-to l = length l.text - l.to

@@ -1,0 +1,44 @@
+-- `filled::fill_rows` meets its contract: the rows of the items below the next one stand in the targets.
+-- A refused row ends the walk; where no item remains it is whole. Assumes nothing.
+use Prim.Native.Nat.{◌-◌}
+use native.Mathlib.Omega.{arith}
+use mathlib.Core.Path.{◌≡◌, refl}
+use borrow.Author.Rules.{rules}
+use lib.ListN.{length}
+use Rattle.number.specs.Limits.{states}
+use Rattle.walk.specs.Walk.{rows}
+use Rattle.vector.specs.Memory.{held_of}
+use Rattle.built.specs.Build.{alone}
+use Rattle.filled.specs.TabledLaws.{Rowing, rowing_first, rowing_fillable, rowing_stop, rowing_more, rowing_end}
+use Rattle.pool.specs.Index.{Indexed}
+use Rattle.steps.specs.CallLaws.{followed}
+use Rattle.filled.proofs.fill_rows.Goals as goal
+
+pub loop-i-init : goal.loop-i-init
+loop-i-init c = (refl, refl, rowing_first c.requires.fillable, refl, c.requires.indexed)
+
+pub fill_row-made-requires : goal.fill_row-made-requires
+fill_row-made-requires c =
+    record { fillable = rowing_fillable c.loop-i.invariant.2 (omega (arith, c.loop-i.invariant.1, c.requires.fillable.room)); i_lt_count = c.loop-i-test.true; indexed = c.loop-i.invariant.4 }
+
+pub returns-in_default : goal.returns-in_default
+returns-in_default c =
+    record { comes = rowing_stop c.loop-i.invariant.2 c.loop-i-test.true c.fill_row-made.ensures.row_filled c.in_default.is }
+
+pub overflow_add-i : goal.overflow_add-i
+overflow_add-i c = omega (arith, c.loop-i.invariant.2.few)
+
+pub loop-i-smaller : goal.loop-i-smaller
+loop-i-smaller c = omega (arith, c.loop-i.invariant.2.few)
+
+pub loop-i-preserved : goal.loop-i-preserved
+loop-i-preserved c = (
+  search rules,
+  search rules,
+  rowing_more c.loop-i.invariant.2 c.loop-i-test.true c.fill_row-made.ensures.row_filled c.in-Reached.is,
+  search rules,
+  followed c.fill_row-made.ensures.follows c.in-Reached.is,
+)
+
+pub returns : goal.returns
+returns c = record { comes = rowing_end c.loop-i.invariant.2 0 c.loop-i-test.false }

@@ -1,0 +1,26 @@
+-- `filled::fill_rows` meets its contract: the rows of the items below the next one stand in the targets.
+-- A refused row ends the walk; where no item remains it is whole. Assumes nothing.
+use Prim.Native.Nat.{◌-◌}
+use native.Mathlib.Omega.{arith}
+use mathlib.Core.Path.{◌≡◌, refl}
+use borrow.Author.Rules.{rules}
+use lib.ListN.{length}
+use Rattle.number.specs.Limits.{states}
+use Rattle.walk.specs.Walk.{rows}
+use Rattle.vector.specs.Memory.{held_of}
+use Rattle.built.specs.Build.{alone}
+use Rattle.filled.specs.TabledLaws.{Rowing, rowing_first, rowing_fillable, rowing_stop, rowing_more, rowing_end}
+use Rattle.pool.specs.Index.{Indexed}
+use Rattle.steps.specs.CallLaws.{followed}
+use Rattle.filled.proofs.fill_rows.Given as goal
+
+abbrev pub invariant-loop-i : goal.invariant-loop-i
+invariant-loop-i l =
+    (length l.cells ≡ length l.initial.cells)
+    × (length l.targets ≡ length l.initial.targets)
+    × Rowing l.count (rows alone states 0 (held_of l.initial.cells l.n l.top l.count)) l.initial.targets l.cells l.n l.next l.held l.i l.targets
+    × (length l.index ≡ length l.initial.index)
+    × Indexed l.index l.cells l.next
+
+abbrev pub decreases-loop-i : goal.decreases-loop-i
+decreases-loop-i l = states - l.i

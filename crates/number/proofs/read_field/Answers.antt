@@ -1,0 +1,32 @@
+-- `number::read_field` meets its contract: the number that was read, told apart by `let .. else`, and then one law of fields a return.
+-- Assumes nothing.
+use mathlib.Core.Path.{◌≡◌, sym, ap, ◌∙◌}
+use Rattle.number.specs.Numbers.{read_number, taken}
+use Rattle.number.specs.Refused.Answer.{got}
+use Rattle.number.specs.Promises.{reads_field}
+use Rattle.number.specs.NumberLaws.{field_refused, field_low, field_high, field_got}
+use borrow.Author.Rules.{rules}
+use Rattle.number.proofs.read_field.Goals as goal
+
+pub returns-in_default : goal.returns-in_default
+returns-in_default c =
+    let told = ap taken c.in_default.is in
+    reads_field (told ∙ sym (field_refused _ _ _ _ _ (sym c.read_number-read.ensures.answer ∙ told)))
+
+pub returns-then-value-lo : goal.returns-then-value-lo
+returns-then-value-lo c =
+    let value_read : read_number c.args.bytes.now c.args.at
+    ≡ got c.in-Value.value c.in-Value.next = sym c.read_number-read.ensures.answer ∙ ap taken c.in-Value.is in
+    reads_field (sym (field_low _ _ _ _ _ _ value_read c.if-value-lo.true))
+
+pub returns-then-hi-value : goal.returns-then-hi-value
+returns-then-hi-value c =
+    let value_read : read_number c.args.bytes.now c.args.at
+    ≡ got c.in-Value.value c.in-Value.next = sym c.read_number-read.ensures.answer ∙ ap taken c.in-Value.is in
+    reads_field (sym (field_high _ _ _ _ _ _ value_read c.if-value-lo.false c.if-hi-value.true))
+
+pub returns : goal.returns
+returns c =
+    let value_read : read_number c.args.bytes.now c.args.at
+    ≡ got c.in-Value.value c.in-Value.next = sym c.read_number-read.ensures.answer ∙ ap taken c.in-Value.is in
+    reads_field (sym (field_got _ _ _ _ _ _ value_read c.if-value-lo.false c.if-hi-value.false))

@@ -1,0 +1,19 @@
+-- `pairs::walk_row` meets its contract. The loop's invariant: with what remains, the numbers reached so far are the whole row.
+-- The measure is how many bytes are left. Assumes nothing.
+use Prim.Native.Nat.{ℕ, ◌+◌, ◌*◌, ◌-◌}
+use native.Mathlib.Omega.{arith}
+use mathlib.Core.Path.{◌≡◌, refl, ap}
+use borrow.Author.Rules.{rules}
+use lib.ListN.{length}
+use Rattle.number.specs.Limits.{bytes}
+use Rattle.pairs.specs.BesideLaws.{Turn, Onward, turn_first, turn_end, turn_reads, turn_ready, turn_stops, turn_on}
+use Rattle.pool.specs.Index.{Indexed}
+use Rattle.steps.specs.CallLaws.{followed}
+use Rattle.pairs.proofs.walk_row.Given as goal
+
+abbrev pub invariant-loop-c : goal.invariant-loop-c
+invariant-loop-c l =
+    Turn l.initial.cells l.n l.top l.count l.i l.targets l.place l.base l.cells l.next l.held l.c × (length l.index ≡ length l.initial.index) × Indexed l.index l.cells l.next
+
+abbrev pub decreases-loop-c : goal.decreases-loop-c
+decreases-loop-c l = bytes - l.c

@@ -1,0 +1,40 @@
+-- `pairs::walk_rows` meets its contract. The loop's invariant: with what remains, the numbers reached so far are the whole walk.
+-- The measure is how many items may still be walked. Assumes nothing.
+use Prim.Native.Nat.{◌-◌}
+use native.Mathlib.Omega.{arith}
+use mathlib.Core.Path.{◌≡◌, refl}
+use borrow.Author.Rules.{rules}
+use lib.ListN.{length}
+use Rattle.vector.specs.Layout.{items}
+use Rattle.pairs.specs.BesideLaws.{Rounds, rounds_first, rounds_end, rounds_stop, rounds_next}
+use Rattle.pool.specs.Index.{Indexed}
+use Rattle.steps.specs.CallLaws.{followed}
+use Rattle.pairs.proofs.walk_rows.Goals as goal
+
+pub loop-i-init : goal.loop-i-init
+loop-i-init c =
+    (rounds_first c.args.cells.now c.args.n c.args.top c.args.count c.args.targets.now c.requires.beside, refl, c.requires.indexed)
+
+pub walk_row-went-requires : goal.walk_row-went-requires
+walk_row-went-requires c =
+    record { beside = c.loop-i.invariant.0.beside; closed = c.requires.closed; i_lt_count = c.loop-i-test.true; indexed = c.loop-i.invariant.2 }
+
+pub returns-in_default : goal.returns-in_default
+returns-in_default c =
+    rounds_stop _ _ _ _ _ _ _ _ _ c.loop-i.invariant.0 c.loop-i-test.true _ _ c.walk_row-went.ensures.ends _ c.in_default.is
+
+pub overflow_add-i : goal.overflow_add-i
+overflow_add-i c = omega (arith, c.loop-i.invariant.0.beside.few, c.loop-i-test.true)
+
+pub loop-i-smaller : goal.loop-i-smaller
+loop-i-smaller c = omega (arith, c.loop-i.invariant.0.beside.few, c.loop-i-test.true)
+
+pub loop-i-preserved : goal.loop-i-preserved
+loop-i-preserved c = (
+  rounds_next _ _ _ _ _ _ _ _ _ c.loop-i.invariant.0 c.loop-i-test.true _ _ c.walk_row-went.ensures.ends c.walk_row-went.auto.1.0 _ _ _ c.in-Reached.is,
+  search rules,
+  followed c.walk_row-went.ensures.follows c.in-Reached.is,
+)
+
+pub returns : goal.returns
+returns c = rounds_end _ _ _ _ _ _ _ _ _ c.loop-i.invariant.0 c.loop-i-test.false

@@ -1,0 +1,29 @@
+-- `reading::read_runs` meets its contract: what the runs to come leave is what was asked, by one law of reading a row a way through a turn.
+-- The measure is the number of runs to come. Assumes nothing.
+use Prim.Native.Nat.{ℕ, ◌+◌, ◌-◌, ◌≤◌}
+use native.Mathlib.Nat.{add-zero}
+use native.Mathlib.Omega.{arith}
+use mathlib.Core.Path.{◌≡◌, refl, sym, ap, ◌∙◌}
+use mathlib.Core.List.{List}
+use borrow.Author.Rules.{rules}
+use lib.ListN.{length, replicate, length-replicate}
+use Rattle.number.specs.declared.Taken.{Taken}
+use Rattle.number.specs.Limits.{bytes}
+use Rattle.number.specs.Refused.Answer.{got}
+use Rattle.number.specs.Numbers.{field, taken}
+use Rattle.number.specs.NumberLaws.{field_read}
+use Rattle.table.specs.Sheet.{read_runs, more_runs}
+use Rattle.reading.specs.Promises.{LaysRow}
+use Rattle.reading.specs.ReadingLaws.{runs_low, runs_end, runs_no_length, runs_long, runs_no_target, runs_same, runs_more}
+use Rattle.reading.specs.ReadingLaws.{row_stopped, row_end, row_more}
+use Rattle.reading.proofs.read_runs.Given as goal
+
+-- whatever the rest of the row leaves and answers, the whole row does
+abbrev pub invariant-loop-left : goal.invariant-loop-left
+invariant-loop-left l =
+    (l.covered ≤ bytes) × (length l.targets ≡ length l.initial.targets)
+    × ((t : List ℕ) (r : Taken) → LaysRow (more_runs l.sheet l.s l.left l.covered l.before l.place) l.s l.targets (l.base + l.covered) t r
+    → LaysRow (read_runs l.sheet l.s l.count l.at) l.s l.initial.targets l.base t r)
+
+abbrev pub decreases-loop-left : goal.decreases-loop-left
+decreases-loop-left l = l.left

@@ -1,0 +1,17 @@
+-- `runs::count_runs` meets its contract. The loop's invariant: the runs counted and those that are left are the row's.
+-- The measure is what is left of the row. Assumes nothing.
+use Prim.Native.Nat.{◌+◌, ◌-◌, ◌≤◌}
+use native.Mathlib.Omega.{arith}
+use mathlib.Core.Path.{◌≡◌, ap}
+use lib.ListN.{length}
+use lib.Seq.{slice}
+use Rattle.table.specs.Sheet.{runs_of}
+use Rattle.runs.specs.RowLaws.{runs_none, runs_some, part_few}
+use Rattle.runs.proofs.count_runs.Given as goal
+
+abbrev pub invariant-loop-start : goal.invariant-loop-start
+invariant-loop-start l =
+    (l.start ≤ l.end) × (l.count + length (runs_of (slice l.start l.end l.targets)) ≡ length (runs_of (slice l.from l.end l.targets)))
+
+abbrev pub decreases-loop-start : goal.decreases-loop-start
+decreases-loop-start l = l.end - l.start

@@ -1,0 +1,18 @@
+-- `runs::runs_length` meets its contract. The loop's invariant: the bytes counted and those of the runs that are left are the row's.
+-- The measure is what is left of the row. Assumes nothing.
+use Prim.Native.Nat.{◌+◌, ◌-◌, ◌*◌, ◌≤◌}
+use native.Mathlib.Omega.{arith}
+use mathlib.Core.Path.{◌≡◌, ap}
+use lib.ListN.{length}
+use lib.Seq.{slice}
+use Rattle.table.specs.Sheet.{runs_of, write_runs}
+use Rattle.runs.specs.RowLaws.{part_none, part_some, part_short}
+use Rattle.runs.proofs.runs_length.Given as goal
+
+abbrev pub invariant-loop-start : goal.invariant-loop-start
+invariant-loop-start l =
+    (l.from ≤ l.start) × (l.start ≤ l.end)
+    × (l.len + length (write_runs (runs_of (slice l.start l.end l.targets))) ≡ length (write_runs (runs_of (slice l.from l.end l.targets))))
+
+abbrev pub decreases-loop-start : goal.decreases-loop-start
+decreases-loop-start l = l.end - l.start

@@ -1,0 +1,51 @@
+-- `start::add_rules` meets its contract: so far the terms of the first rules are in the pool, each with its parts, behind those before.
+-- A rule that is too long ends it; past the last rule the whole vector is there. Assumes nothing.
+use Prim.Native.Nat.{◌-◌}
+use native.Mathlib.Omega.{arith}
+use mathlib.Core.Path.{◌≡◌, refl}
+use borrow.Author.Rules.{rules}
+use lib.ListN.{length}
+use Rattle.meaning.specs.Tests.{clash}
+use Rattle.normal.specs.AnswerLaws.{got}
+use Rattle.walk.specs.Vectors.{normalised}
+use Rattle.vector.specs.Vectors.{vector_of}
+use Rattle.start.specs.Start.{rules_in, fronts}
+use Rattle.start.specs.StartLaws.{Begun, begun_first, rule_has, rule_room, rule_long, rule_puts, rule_more, begun_last}
+use Rattle.start.proofs.add_rules.Goals as goal
+
+pub loop-i-init : goal.loop-i-init
+loop-i-init c =
+    (refl, refl, begun_first c.requires.opened c.requires.n_bound c.requires.first c.requires.indexed)
+
+pub rule_term-requires : goal.rule_term-requires
+rule_term-requires c =
+    record { has = rule_has c.requires.opened c.requires.n_bound c.loop-i.invariant.2 c.loop-i-test.true; sound = c.loop-i.invariant.2.first.kept.pooled.sound; room = rule_room c.requires.opened c.requires.n_bound c.loop-i.invariant.2 c.loop-i-test.true }
+
+pub returns-in_default : goal.returns-in_default
+returns-in_default c =
+    record {
+      too_long = λ _. rule_long c.requires.opened c.requires.n_bound c.loop-i.invariant.2 c.loop-i-test.true c.rule_term.ensures c.in_default.is;
+      terms = λ e. absurd (clash refl e);
+      first = λ e. absurd (clash refl e);
+      indexed = λ e. absurd (clash refl e);
+    }
+
+pub put_term-placed-requires : goal.put_term-placed-requires
+put_term-placed-requires c =
+    let q = rule_puts c.requires.opened c.requires.n_bound c.loop-i.invariant.2 c.loop-i-test.true (got c.rule_term.ensures c.in-Term.is) in
+    record { fact = q.ready; sound = q.sound; i_bound = q.small }
+
+pub loop-i-preserved : goal.loop-i-preserved
+loop-i-preserved c =
+    let y = got c.rule_term.ensures c.in-Term.is in
+    (search rules, search rules, rule_more c.requires.opened c.requires.n_bound c.loop-i.invariant.2 c.loop-i-test.true y c.put_term-placed.ensures)
+
+pub returns : goal.returns
+returns c =
+    let all : c.loop-i.i ≡ c.args.n = omega (arith, c.loop-i.invariant.2.within) in
+    record {
+      too_long = λ e. absurd (clash e refl);
+      terms = λ _. begun_last c.requires.opened c.requires.n_bound c.loop-i.invariant.2 all;
+      first = λ _. rw all at c.loop-i.invariant.2.first;
+      indexed = λ _. c.loop-i.invariant.2.indexed;
+    }

@@ -1,0 +1,34 @@
+-- `edge_of` works out a vector's next edge: so far the least of the edges of the terms passed.
+-- Past the last rule it is the least of all.
+use Prim.Native.Nat.{◌≤◌, ◌-◌}
+use native.Mathlib.Omega.{arith}
+use mathlib.Core.Path.{◌≡◌}
+use mathlib.Core.Logic.{⊎_elim}
+use borrow.Author.Rules.{rules}
+use lib.ListN.{length}
+use Rattle.number.specs.Limits.{rules}
+use Rattle.vector.specs.PlaceLaws.{Least, least_first, least_new, least_old, least_last}
+use Rattle.vector.proofs.edge_of.Goals as goal
+
+pub loop-i-init : goal.loop-i-init
+loop-i-init c =
+    (search rules, search rules, least_first c.args.cells.now c.args.n c.args.v.at c.args.byte)
+
+pub next_edge-edge-requires : goal.next_edge-edge-requires
+next_edge-edge-requires c =
+    record { sound = c.requires.reads_short.reads.sound c.loop-i.i (omega arith); i_value = c.requires.reads_short.is_short c.loop-i.i (omega arith); byte_le_last_byte = c.requires.byte_le_last_byte }
+
+pub loop-i-preserved : goal.loop-i-preserved
+loop-i-preserved c = (
+  search rules,
+  search rules,
+  ⊎_elim
+      (λ w. rw w.1 (least_new _ _ _ c.args.byte c.loop-i.i c.loop-i.least _ c.requires.reads_short.reads (omega arith) c.next_edge-edge.ensures c.loop-i.invariant.2 w.0.taken))
+      (λ w. rw w.1 (least_old _ _ _ c.args.byte c.loop-i.i c.loop-i.least _ c.requires.reads_short.reads (omega arith) c.next_edge-edge.ensures c.loop-i.invariant.2 w.0.left))
+      c.if-edge-least.branch,
+)
+
+pub returns : goal.returns
+returns c =
+    let e : c.loop-i.i ≡ c.args.n = omega arith in
+    least_last c.args.cells.now c.args.n c.args.v.at c.args.byte c.loop-i.least c.requires.reads_short.reads (rw e at c.loop-i.invariant.2)

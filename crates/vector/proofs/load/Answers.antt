@@ -1,0 +1,24 @@
+-- `load` reads the vector of an item: so far the places passed are those of memory.
+-- All 32 passed, the vector is the item's.
+use Prim.Native.Nat.{◌+◌, ◌*◌, ◌-◌, ◌≤◌}
+use mathlib.Core.Path.{◌≡◌, sym, ◌∙◌}
+use native.Mathlib.Omega.{arith}
+use borrow.Author.Rules.{rules}
+use lib.ListN.{length, take, drop}
+use lib.Seq.{take_all}
+use Rattle.number.specs.Limits.{rules}
+use Rattle.vector.specs.Layout.{vectors_at}
+use Rattle.vector.specs.PlaceLaws.{copied_more}
+use Rattle.vector.proofs.load.Goals as goal
+
+pub loop-i-preserved : goal.loop-i-preserved
+loop-i-preserved c = (
+  search rules,
+  search rules,
+  copied_more c.loop-i.to c.args.cells.now (vectors_at + c.args.k * rules) c.loop-i.i (omega arith) (omega arith) c.loop-i.invariant.2,
+)
+
+pub returns : goal.returns
+returns c =
+    let e : c.loop-i.i ≡ rules = omega arith in
+    sym (take_all rules c.loop-i.to (omega arith)) ∙ (rw e at c.loop-i.invariant.2)
