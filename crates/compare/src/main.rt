@@ -5,12 +5,12 @@
 use compare_lines::COMPARE_ROOM;
 use number::limits::{BOOK_FILE, SHEET_FILE};
 
-fn main() {
+fn main(rt: HostRuntime) {
     let mut book = [0u8; BOOK_FILE + 1];
     let mut sheet = [0u8; SHEET_FILE + 1];
     let mut out = [0u8; COMPARE_ROOM];
-    let book_end = files::read_named(b"words.book", &mut book);
-    let sheet_end = files::read_named(b"words.sheet", &mut sheet);
+    let book_end = files::read_named(&rt, b"words.book", &mut book);
+    let sheet_end = files::read_named(&rt, b"words.sheet", &mut sheet);
     let end = compare_lines::compare_lines(&book[0..book_end], &sheet[0..sheet_end], &mut out);
-    files::print(&out[0..end]);
+    files::print(&rt, &out[0..end]);
 }

@@ -2,7 +2,6 @@
 -- To believe them, read Within, with answer_of, run and taken_of of transfer, and Moved of the system's contracts.
 use Rattle.std.specs.Prelude.{ℕ, zero, suc, ◌+◌, ◌-◌, ◌<◌, ◌≤◌, ◌≡◌, refl, List, [], ◌∷◌, map, ℤ, pos, negsuc}
 use Rattle.std.proofs.Common.{arith, sym, ap, subst, ◌∙◌}
-use Rattle.libc.specs.Io.{Moved as MovedOf}
 use Rattle.transfer.specs.declared.Answer.{Answer}
 use Rattle.transfer.specs.declared.Answer.TheVariants.{Moved, Nothing}
 use Rattle.transfer.specs.declared.Transfer.{Transfer}
@@ -29,6 +28,11 @@ the_handed_on room (Going at left) h = absurd h
 -- what calls came to: of each call what it answered, and the number of its error
 abbrev pub answers_of : List (ℤ × ℤ) → List Answer
 answers_of calls = map (λ c. answer_of c.0 c.1) calls
+
+-- what a call that is lent n bytes may answer: -1, or how many bytes it moved, at most n
+abbrev pub MovedOf : ℕ → ℤ → Type 0
+MovedOf n (pos k) = k ≤ n
+MovedOf n (negsuc k) = k ≡ 0
 
 -- calls that keep the system's contracts: each is lent the room that is left, and answers -1 or how many bytes of it were moved
 abbrev pub room_left : ℕ → ℤ → ℕ

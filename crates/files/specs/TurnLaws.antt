@@ -1,12 +1,20 @@
 -- A turn that goes on has less before it, and one that ended lies within the buffer, whatever the system answered.
 -- For the proofs of read and write, whose turns differ in nothing but the call, and of read_all.
-use Rattle.std.specs.Prelude.{ℕ, zero, suc, ◌+◌, ◌-◌, ◌<◌, ◌≤◌, ◌≡◌, refl, Bool, true, false, cond, T, eqb, ltb, ℤ, pos, negsuc}
-use Rattle.std.proofs.Common.{arith, sym, subst, ltb→lt}
+use Rattle.std.specs.Prelude.{ℕ, zero, suc, ◌+◌, ◌-◌, ◌<◌, ◌≤◌, ◌≡◌, refl, Bool, true, false, cond, T, eqb, ltb, ℤ, pos, negsuc, Result, Ok, Err}
+use Rattle.std.proofs.Common.{arith, sym, ap, subst, ltb→lt, inl, inr}
+use Rattle.std.specs.declared.io.Error.{Error}
+use Rattle.transfer.specs.declared.Answer.{Answer}
 use Rattle.transfer.specs.declared.Answer.TheVariants.{Interrupted, Faulted}
 use Rattle.transfer.specs.declared.Transfer.{Transfer}
 use Rattle.transfer.specs.declared.Transfer.TheVariants.{Going, All, Ended, Failed}
 use Rattle.transfer.specs.Answers.{answer_of, again, go_on, taken_of}
-use Rattle.files.specs.Within.{Within, Turned}
+use Rattle.files.specs.Within.{Within, Turned, AnswersTo}
+
+-- what the library returned is one answer more
+pub turned : (room at left : ℕ) (got : Result ℕ Error) (answer : Answer) → AnswersTo got answer → Turned room at left (go_on room at left answer)
+turned room at left (Ok n) answer e = record { got = pos n; error = pos 0; is = ap (go_on room at left) e }
+turned room at left (Err e) answer (inl h) = record { got = negsuc 0; error = pos 4; is = ap (go_on room at left) h.1 }
+turned room at left (Err e) answer (inr h) = record { got = negsuc 0; error = pos 0; is = ap (go_on room at left) h.1 }
 
 -- what the loops need of a turn
 abbrev pub Less : ℕ → ℕ → ℕ → Transfer → Type 0

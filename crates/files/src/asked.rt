@@ -1,36 +1,54 @@
 // What is asked of the system once, and asked again where a signal interrupted it: files opened and made, and brought to their device.
-// Each answers as the system did last, -1 where it could not be done; os::errno() then tells why.
-use libc::EINTR;
+// The library takes names that are text; a name of other bytes is told as one that no call takes.
+ghost use Rattle.std.specs.Prelude.{◌≡◌};
+
+use std::fs::{File, OpenFile};
+use std::io::ErrorKind;
+use std::rt::Files;
+use std::{io, str};
 use transfer::INTERRUPTIONS;
 
-// To open the file of a name for reading, to make one, or to bring the file of a descriptor to its device.
-#[derive(Clone, Copy)]
-pub(crate) enum Ask {
-    Open,
-    Make,
-    Sync(i32),
-}
-
-fn once(ask: Ask, name: &[u8]) -> i32 {
-    match ask {
-        Ask::Open => os::open_read(name),
-        Ask::Make => os::create(name),
-        Ask::Sync(fd) => libc::fsync(fd),
+// A name as the library takes it.
+pub(crate) fn text(name: &[u8]) -> io::Result<&str> {
+    match str::from_utf8(name) {
+        Ok(text) => Ok(text),
+        Err(_) => Err(io::Error::from(ErrorKind::InvalidInput)),
     }
 }
 
-pub(crate) fn patiently(ask: Ask, name: &[u8]) -> i32 {
-    let mut left = INTERRUPTIONS;
-    let mut answer = once(ask, name);
-    while left > 0 {
-        if answer >= 0 {
+fn was_interrupted<T>(answer: &io::Result<T>) -> bool {
+    match answer {
+        Ok(_) => false,
+        Err(error) => error.kind() == ErrorKind::Interrupted,
+    }
+}
+
+pub(crate) fn patiently<T: Drop, A: Fn() -> io::Result<T>>(ask: A) -> io::Result<T>
+    requires { A.IsAlwaysCallable ask }
+{
+    let mut answer = ask();
+    for _ in 0..INTERRUPTIONS {
+        if !was_interrupted(&answer) {
             return answer;
         }
-        if os::errno() != EINTR {
-            return answer;
-        }
-        answer = once(ask, name);
-        left -= 1;
+        answer = ask();
     }
     answer
+}
+
+// Opens the file of a name for reading.
+pub(crate) fn open<F: Files>(files: &F, name: &[u8]) -> io::Result<F::File> {
+    let path = text(name)?;
+    patiently(|| File::open(files, path))
+}
+
+// Makes the file of a name that no file has.
+pub(crate) fn make<F: Files>(files: &F, name: &[u8]) -> io::Result<F::File> {
+    let path = text(name)?;
+    patiently(|| File::create_new(files, path))
+}
+
+// Brings a file to its device.
+pub(crate) fn sync<F: OpenFile>(file: &F) -> io::Result<()> {
+    patiently(|| file.sync_all())
 }

@@ -1,40 +1,56 @@
-// Reading and writing by the system's calls, which the programs share: files by name, standard input and output.
+// Reading and writing by the library's calls, which the programs share: files by name, standard input and output.
 // What an answer of the system's means, and what a row of answers comes to, is proved in the crate transfer; here the calls are made.
 #![tactic(auto)]
 
-ghost use Rattle.std.specs.Prelude.{◌<◌, ◌≤◌, ◌≡◌, T, pos, length, take};
-ghost use Rattle.std.specs.Int.Signed.{lt_z};
-ghost use Rattle.files.specs.Within.{Within, Turned};
+ghost use Rattle.std.specs.Prelude.{◌<◌, ◌≤◌, ◌≡◌, ◌^◌, IfOk, IsErr, length, take};
+ghost use Rattle.files.specs.Within.{Within, Turned, AnswersTo};
 
-use asked::{Ask, patiently};
-use libc::{STDERR_FILENO, STDOUT_FILENO};
-use transfer::{INTERRUPTIONS, Transfer};
+use asked::open;
+use std::io;
+use std::io::{ErrorKind, Read, Write};
+use std::rt::Files;
+use transfer::{Answer, EINTR, INTERRUPTIONS, Transfer};
 
 mod asked;
 mod beside;
 
 pub use beside::save;
 
+// What a call of the library's came to, by what it returned.
+fn answer_to(got: io::Result<usize>) -> Answer
+    requires { IfOk got (λ n. n < 2 ^ 63) }
+    ensures { AnswersTo got result }
+{
+    match got {
+        Ok(count) => transfer::answer_of(count as isize, 0),
+        Err(error) => {
+            if error.kind() == ErrorKind::Interrupted {
+                return transfer::answer_of(-1, EINTR);
+            }
+            transfer::answer_of(-1, 0)
+        }
+    }
+}
+
 // One read behind the bytes that are there, and how far it brings the transfer.
-fn read_turn(fd: i32, buffer: &mut [u8], at: usize, left: u32) -> Transfer
+fn read_turn<R: Read>(input: &mut R, buffer: &mut [u8], at: usize, left: u32) -> Transfer
     requires { at < length buffer.old }
     ensures turned { Turned (length buffer.old) at left result }
     ensures buffer_unchanged { take at buffer.new ≡ take at buffer.old }
 {
     let room = buffer.len();
-    let got = libc::read(fd, &mut buffer[at..]);
-    let answer = transfer::answer_of(got, os::errno());
-    transfer::go_on(room, at, left, answer)
+    let got = input.read(&mut buffer[at..]);
+    transfer::go_on(room, at, left, answer_to(got))
 }
 
 // Reads until the buffer is full, the input ends or a read fails.
-fn read(fd: i32, buffer: &mut [u8]) -> Transfer
+fn read<R: Read>(input: &mut R, buffer: &mut [u8]) -> Transfer
     ensures { Within (length buffer.old) result }
 {
     let mut at: usize = 0;
     let mut left = INTERRUPTIONS;
     while at < buffer.len() {
-        match read_turn(fd, buffer, at, left) {
+        match read_turn(input, buffer, at, left) {
             Transfer::Going(moved, fewer) => {
                 at = moved;
                 left = fewer;
@@ -48,23 +64,22 @@ fn read(fd: i32, buffer: &mut [u8]) -> Transfer
 }
 
 // One write of the bytes that are left, and how far it brings the transfer.
-fn write_turn(fd: i32, bytes: &[u8], at: usize, left: u32) -> Transfer
+fn write_turn<W: Write>(out: &mut W, bytes: &[u8], at: usize, left: u32) -> Transfer
     requires { at < length bytes.now }
     ensures { Turned (length bytes.now) at left result }
 {
-    let put = libc::write(fd, &bytes[at..]);
-    let answer = transfer::answer_of(put, os::errno());
-    transfer::go_on(bytes.len(), at, left, answer)
+    let put = out.write(&bytes[at..]);
+    transfer::go_on(bytes.len(), at, left, answer_to(put))
 }
 
 // Writes until all is written, or a write fails or takes nothing.
-pub fn write(fd: i32, bytes: &[u8]) -> Transfer
+pub fn write<W: Write>(out: &mut W, bytes: &[u8]) -> Transfer
     ensures { Within (length bytes.now) result }
 {
     let mut at: usize = 0;
     let mut left = INTERRUPTIONS;
     while at < bytes.len() {
-        match write_turn(fd, bytes, at, left) {
+        match write_turn(out, bytes, at, left) {
             Transfer::Going(moved, fewer) => {
                 at = moved;
                 left = fewer;
@@ -78,41 +93,33 @@ pub fn write(fd: i32, bytes: &[u8]) -> Transfer
 }
 
 // The number of bytes of an input that was read to its end. Where it has as many as the buffer or more, or a read fails, or it could not be opened,
-// which a descriptor below 0 tells, it is the buffer's length: a buffer for a file has one byte more than the file may have, so that this
+// which an error in its place tells, it is the buffer's length: a buffer for a file has one byte more than the file may have, so that this
 // stands for a file that is not to be had.
-pub fn read_all(fd: i32, buffer: &mut [u8]) -> usize
+pub fn read_all<R: Read + Drop>(input: io::Result<R>, buffer: &mut [u8]) -> usize
     ensures upper_bound { result ≤ length buffer.new }
-    ensures value { T (lt_z fd (pos 0)) → result ≡ length buffer.new }
+    ensures value { IsErr input → result ≡ length buffer.new }
 {
     let room = buffer.len();
-    if fd < 0 {
-        return room;
+    match input {
+        Ok(mut opened) => transfer::taken(room, read(&mut opened, buffer)),
+        Err(_) => room,
     }
-    transfer::taken(room, read(fd, buffer))
 }
 
 // The same of a file by its name.
-pub fn read_named(name: &[u8], buffer: &mut [u8]) -> usize
+pub fn read_named<F: Files>(files: &F, name: &[u8], buffer: &mut [u8]) -> usize
     ensures { result ≤ length buffer.new }
 {
-    let fd = patiently(Ask::Open, name);
-    let n = read_all(fd, buffer);
-    if fd >= 0 {
-        libc::close(fd);
-    }
-    n
+    read_all(open(files, name), buffer)
 }
 
 // Writes to standard output. What cannot be written is told on standard error, since a program has no exit status to tell it by.
-pub fn print(bytes: &[u8]) -> Transfer
+pub fn print<P: Print + Eprint>(rt: &P, bytes: &[u8]) -> Transfer
     ensures { Within (length bytes.now) result }
 {
-    let done = write(STDOUT_FILENO, bytes);
+    let done = write(&mut io::writer(rt), bytes);
     if !transfer::is_all(done) {
-        write(
-            STDERR_FILENO,
-            b"standard output could not be written whole\n",
-        );
+        let _ = rt.eprintln("standard output could not be written whole");
     }
     done
 }

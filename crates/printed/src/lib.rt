@@ -25,19 +25,26 @@ pub enum Handed {
 
 // Prints the bytes that are due behind so many others, and answers how many were printed by then. Book and text are handed in for the promise,
 // which says by them which bytes are due.
-fn print_next<'a>(book: &'a [u8], text: &'a [u8], before: usize, part: &[u8]) -> Handed
+fn print_next<'a, P: Print + Eprint>(
+    rt: &P,
+    book: &'a [u8],
+    text: &'a [u8],
+    before: usize,
+    part: &[u8],
+) -> Handed
     requires due { Due (cut_print book.now text.now) before part.now }
     requires part_bound { before + length part.now < 2 ^ 64 }
     ensures { Next before (length part.now) result }
 {
-    if transfer::is_all(files::print(part)) {
+    if transfer::is_all(files::print(rt, part)) {
         return Handed::All(before + part.len());
     }
     Handed::Less(before)
 }
 
 // Prints turn after turn. Every turn but the last takes a byte of the text at least.
-fn print_turns<'a>(
+fn print_turns<'a, P: Print + Eprint>(
+    rt: &P,
     book: &'a [u8],
     text: &'a [u8],
     count: usize,
@@ -58,9 +65,9 @@ fn print_turns<'a>(
     let mut handed: usize = 0;
     loop {
         match cut_lines::next_part(count, labels, targets, text, from, sum, kinds, records, out) {
-            Turn::Last(end) => return print_next(book, text, handed, &out[0..end]),
+            Turn::Last(end) => return print_next(rt, book, text, handed, &out[0..end]),
             Turn::Onward(next, more, end) => {
-                match print_next(book, text, handed, &out[0..end]) {
+                match print_next(rt, book, text, handed, &out[0..end]) {
                     Handed::Less(n) => return Handed::Less(n),
                     Handed::All(n) => {
                         from = next;
@@ -75,7 +82,7 @@ fn print_turns<'a>(
 
 // Prints all that program cut prints for the bytes of its book and of its text; more bytes than a file may have stand for one that is missing or
 // too long.
-pub fn print_cut<'a>(book: &'a [u8], text: &'a [u8]) -> Handed
+pub fn print_cut<'a, P: Print + Eprint>(rt: &P, book: &'a [u8], text: &'a [u8]) -> Handed
     ensures { Counts (cut_print book.now text.now) result }
 {
     let mut labels = [0u8; STATES];
@@ -93,9 +100,10 @@ pub fn print_cut<'a>(book: &'a [u8], text: &'a [u8]) -> Handed
         &mut kinds,
         &mut out,
     ) {
-        Begun::Told(end) => print_next(book, text, 0, &out[0..end]),
+        Begun::Told(end) => print_next(rt, book, text, 0, &out[0..end]),
         Begun::States(count) => {
             print_turns(
+                rt,
                 book,
                 text,
                 count,

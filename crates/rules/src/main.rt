@@ -2,11 +2,10 @@
 // All of it is done in the crate saved; here it gets the name of its file and the output for people.
 #![tactic(auto)]
 
-use libc::STDERR_FILENO;
 use number::limits::RULES_FILE;
 
-fn main() {
+fn main(rt: HostRuntime) {
     let mut text = [0u8; RULES_FILE + 1];
-    let end = saved::read_rules(b"words.rules", &mut text);
-    saved::make_book(&text[0..end], STDERR_FILENO);
+    let end = saved::read_rules(&rt, b"words.rules", &mut text);
+    saved::make_book(&rt, &text[0..end], &mut rt.stderr());
 }

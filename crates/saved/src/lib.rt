@@ -9,6 +9,8 @@ use advice::ADVICE_ROOM;
 use lines::LINE_ROOM;
 use number::Refusal;
 use number::limits::{RULES_FILE, TYPED_AREA};
+use std::io::Write;
+use std::rt::Files;
 use table::Written;
 
 mod sheet;
@@ -24,49 +26,49 @@ pub enum Made {
 }
 
 // The bytes of a file of rules. The buffer has one byte more than it may have: a file that is missing or too long fills it.
-pub fn read_rules(name: &[u8], text: &mut [u8; RULES_FILE + 1]) -> usize
+pub fn read_rules<F: Files>(rt: &F, name: &[u8], text: &mut [u8; RULES_FILE + 1]) -> usize
     ensures { result ≤ length text.new }
 {
-    files::read_named(name, text)
+    files::read_named(rt, name, text)
 }
 
-pub(crate) fn print_refused(r: Refusal) {
+pub(crate) fn print_refused<P: Print + Eprint>(rt: &P, r: Refusal) {
     let mut line = [0u8; LINE_ROOM];
     let end = lines::put_refused(r, &mut line, 0);
-    files::print(&line[0..end]);
+    files::print(rt, &line[0..end]);
 }
 
 // The refusal, and for people where and why.
-fn tell(text: &[u8], r: Refusal, people: i32) {
-    print_refused(r);
+fn tell<P: Print + Eprint, W: Write>(rt: &P, text: &[u8], r: Refusal, people: &mut W) {
+    print_refused(rt, r);
     let mut out = [0u8; ADVICE_ROOM];
     let end = advice::advise(text, r, &mut out);
     files::write(people, &out[0..end]);
 }
 
 // A book that cannot be written is refused as a file that cannot be read is, but people are told which of the two it was.
-fn tell_unsaved(people: i32) {
-    print_refused(Refusal::Input);
+fn tell_unsaved<P: Print + Eprint, W: Write>(rt: &P, people: &mut W) {
+    print_refused(rt, Refusal::Input);
     let mut out = [0u8; ADVICE_ROOM];
     let end = advice::advise_unsaved(&mut out);
     files::write(people, &out[0..end]);
 }
 
-// Saves the book of these bytes, which are as read_rules left them; people are told of a refusal on the descriptor given for them.
-pub fn make_book(text: &[u8], people: i32) -> Made
+// Saves the book of these bytes, which are as read_rules left them; people are told of a refusal by the writer given for them.
+pub fn make_book<R: Files + Print + Eprint, W: Write>(rt: &R, text: &[u8], people: &mut W) -> Made
     ensures { Makes text.now result }
 {
     let mut book = [0u8; TYPED_AREA];
     match rules_book::rules_book(text, &mut book) {
         Written::Bytes(n) => {
-            if files::save(b"words.book", &book[0..n]) {
+            if files::save(rt, b"words.book", &book[0..n]) {
                 return Made::Saved;
             }
-            tell_unsaved(people);
+            tell_unsaved(rt, people);
             Made::Unsaved
         }
         Written::Unwritten(r) => {
-            tell(text, r, people);
+            tell(rt, text, r, people);
             Made::Refused(r)
         }
     }

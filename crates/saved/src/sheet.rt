@@ -5,24 +5,25 @@ ghost use Rattle.saved.specs.SheetMade.{MakesSheet};
 use crate::{Made, print_refused};
 use number::Refusal;
 use sheet_bytes::Put;
+use std::rt::Files;
 use table::LONGEST_SHEET;
 
 // Saves the sheet of the book of these bytes; more bytes than a book may have stand for one that is missing or too long.
 // A sheet that cannot be written is refused as a book that cannot be read is.
-pub fn make_sheet(book: &[u8]) -> Made
+pub fn make_sheet<R: Files + Print + Eprint>(rt: &R, book: &[u8]) -> Made
     ensures { MakesSheet book.now result }
 {
     let mut out = [0u8; LONGEST_SHEET];
     match sheet_bytes::sheet_bytes(book, &mut out) {
         Put::Sheet(end) => {
-            if files::save(b"words.sheet", &out[0..end]) {
+            if files::save(rt, b"words.sheet", &out[0..end]) {
                 return Made::Saved;
             }
-            print_refused(Refusal::Input);
+            print_refused(rt, Refusal::Input);
             Made::Unsaved
         }
         Put::Line(r, end) => {
-            files::print(&out[0..end]);
+            files::print(rt, &out[0..end]);
             Made::Refused(r)
         }
     }

@@ -4,8 +4,8 @@
 
 use number::limits::BOOK_FILE;
 
-fn main() {
+fn main(rt: HostRuntime) {
     let mut book = [0u8; BOOK_FILE + 1];
-    let end = files::read_named(b"words.book", &mut book);
-    saved::make_sheet(&book[0..end]);
+    let end = files::read_named(&rt, b"words.book", &mut book);
+    saved::make_sheet(&rt, &book[0..end]);
 }

@@ -5,7 +5,8 @@
 ghost use Rattle.std.specs.Prelude.{◌≤◌, ◌≡◌};
 ghost use Rattle.transfer.specs.Answers.{answer_of, go_on, taken_of, is_all};
 
-use libc::EINTR;
+// The number of the error of a call that a signal interrupted.
+pub const EINTR: i32 = 4;
 
 // So often a call on one file is tried again where a signal interrupted it; since a loop must end, the next interruption is a failure.
 pub const INTERRUPTIONS: u32 = 1_000_000;

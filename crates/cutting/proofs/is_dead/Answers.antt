@@ -1,10 +1,8 @@
 -- `cutting::is_dead` meets its contract. The loop's invariant: the flag tells whether no byte below c leads out.
 -- The measure is how many bytes are left. Assumes nothing.
-use Prim.Native.Nat.{◌+◌, ◌-◌, ◌*◌, ◌≤◌}
+use Prim.Native.Nat.{◌+◌, ◌*◌}
 use native.Mathlib.Omega.{arith}
 use mathlib.Core.Path.{◌≡◌, sym, ap, ◌∙◌}
-use mathlib.Core.Logic.{⊎_elim}
-use borrow.Author.Rules.{rules}
 use Rattle.number.specs.Limits.{bytes}
 use Rattle.cutting.specs.Dead.{keeps}
 use Rattle.cutting.specs.DeadLaws.{keeps_none, keeps_more, keeps_not, dead_not, dead_told}
@@ -30,8 +28,8 @@ pub loop-c-preserved : goal.loop-c-preserved
 loop-c-preserved c = (
   omega arith,
   elim c.if-targets-row.branch [
-    then-targets-row w ↦ w.stays-is ∙ keeps_not _ _ c.loop-c.c (λ e. w.if-targets-row.true (e ∙ sym c.if-first-state.false))
-  | else-targets-row w ↦ w.stays-is ∙ c.loop-c.invariant.1 ∙ keeps_more _ _ c.loop-c.c (w.if-targets-row.false ∙ c.if-first-state.false)
+    | then-targets-row w ↦ w.stays-is ∙ keeps_not _ _ c.loop-c.c (λ e. w.if-targets-row.true (e ∙ sym c.if-first-state.false))
+    | else-targets-row w ↦ w.stays-is ∙ c.loop-c.invariant.1 ∙ keeps_more _ _ c.loop-c.c (w.if-targets-row.false ∙ c.if-first-state.false)
   ],
 )
 
