@@ -3,12 +3,12 @@
 use Prim.Native.Nat.{◌≤◌, ◌-◌}
 use native.Mathlib.Omega.{arith}
 use mathlib.Core.Path.{◌≡◌}
-use mathlib.Core.Logic.{⊎_elim}
 use borrow.Author.Rules.{rules}
 use lib.ListN.{length}
 use Rattle.number.specs.Limits.{rules}
 use Rattle.vector.specs.PlaceLaws.{Least, least_first, least_new, least_old, least_last}
 use Rattle.vector.proofs.edge_of.Goals as goal
+use Rattle.vector.proofs.edge_of.Goals.{then-edge-least, else-edge-least}
 
 pub loop-i-init : goal.loop-i-init
 loop-i-init c =
@@ -22,10 +22,10 @@ pub loop-i-preserved : goal.loop-i-preserved
 loop-i-preserved c = (
   search rules,
   search rules,
-  ⊎_elim
-      (λ w. rw w.1 (least_new _ _ _ c.args.byte c.loop-i.i c.loop-i.least _ c.requires.reads_short.reads (omega arith) c.next_edge-edge.ensures c.loop-i.invariant.2 w.0.taken))
-      (λ w. rw w.1 (least_old _ _ _ c.args.byte c.loop-i.i c.loop-i.least _ c.requires.reads_short.reads (omega arith) c.next_edge-edge.ensures c.loop-i.invariant.2 w.0.left))
-      c.if-edge-least.branch,
+  elim c.if-edge-least.branch [
+    then-edge-least w ↦ rw w.least-is (least_new _ _ _ c.args.byte c.loop-i.i c.loop-i.least _ c.requires.reads_short.reads (omega arith) c.next_edge-edge.ensures c.loop-i.invariant.2 w.if-edge-least.true)
+    | else-edge-least w ↦ rw w.least-is (least_old _ _ _ c.args.byte c.loop-i.i c.loop-i.least _ c.requires.reads_short.reads (omega arith) c.next_edge-edge.ensures c.loop-i.invariant.2 w.if-edge-least.false)
+  ],
 )
 
 pub returns : goal.returns
