@@ -3,7 +3,6 @@
 use native.Mathlib.Omega.{arith}
 use mathlib.Core.Path.{◌≡◌, refl, sym, ap, ◌∙◌}
 use mathlib.Core.Bool.{true}
-use borrow.Author.Rules.{rules}
 use Rattle.number.specs.Refused.Outcome.{gives}
 use Rattle.book.specs.Reads.{read_book}
 use Rattle.book.specs.Calls.{checked, size_of}

@@ -3,7 +3,6 @@
 use native.Mathlib.Omega.{arith}
 use Rattle.book.specs.declared.Node.TheVariants.{Nothing, Empty, Range, Cat, Alt, Star, Either, And, Not}
 use Rattle.rule.specs.NodeLaws.{node_within, node_room_lem, cat_asks, merge_asks, one_asks, node_as}
-use borrow.Author.Rules.{rules}
 use Rattle.rule.proofs.node_built.Goals as goal
 
 pub store-requires-in-Range : goal.store-requires-in-Range

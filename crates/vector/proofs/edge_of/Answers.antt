@@ -1,12 +1,9 @@
 -- `edge_of` works out a vector's next edge: so far the least of the edges of the terms passed.
 -- Past the last rule it is the least of all.
-use Prim.Native.Nat.{◌≤◌, ◌-◌}
 use native.Mathlib.Omega.{arith}
 use mathlib.Core.Path.{◌≡◌}
 use borrow.Author.Rules.{rules as steps}
-use lib.ListN.{length}
-use Rattle.number.specs.Limits.{rules}
-use Rattle.vector.specs.PlaceLaws.{Least, least_first, least_new, least_old, least_last}
+use Rattle.vector.specs.PlaceLaws.{least_first, least_new, least_old, least_last}
 use Rattle.vector.proofs.edge_of.Goals as goal
 use Rattle.vector.proofs.edge_of.Goals.{then-edge-least, else-edge-least}
 

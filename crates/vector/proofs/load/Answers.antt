@@ -1,10 +1,9 @@
 -- `load` reads the vector of an item: so far the places passed are those of memory.
 -- All 32 passed, the vector is the item's.
-use Prim.Native.Nat.{◌+◌, ◌*◌, ◌-◌, ◌≤◌}
+use Prim.Native.Nat.{◌+◌, ◌*◌}
 use mathlib.Core.Path.{◌≡◌, sym, ◌∙◌}
 use native.Mathlib.Omega.{arith}
 use borrow.Author.Rules.{rules as steps}
-use lib.ListN.{length, take, drop}
 use lib.Seq.{take_all}
 use Rattle.number.specs.Limits.{rules}
 use Rattle.vector.specs.Layout.{vectors_at}

@@ -1,11 +1,10 @@
 -- `store` puts a vector where its item has it: so far the places passed are written, and nothing else is.
 -- All 32 passed, the whole vector stands there.
-use Prim.Native.Nat.{◌+◌, ◌*◌, ◌-◌, ◌≤◌}
+use Prim.Native.Nat.{◌+◌, ◌*◌}
 use mathlib.Core.Path.{◌≡◌, refl}
 use native.Mathlib.Omega.{arith}
 use borrow.Author.Rules.{rules as steps}
-use lib.ListN.{length}
-use lib.Seq.{paste, paste-zero}
+use lib.Seq.{paste-zero}
 use Rattle.number.specs.Limits.{rules}
 use Rattle.vector.specs.Layout.{vectors_at}
 use Rattle.vector.specs.PlaceLaws.{pasted_more}
