@@ -8,7 +8,9 @@ pub returns-then-sided : goal.returns-then-sided
 returns-then-sided c = rest_none c.requires c.args.kind c.sided.ensures c.if-sided.true
 
 pub negated_fit-requires : goal.negated_fit-requires
-negated_fit-requires c = turned_asks c.requires
+negated_fit-requires c =
+    let asked = turned_asks c.requires in
+    record { sound = asked.0; a_lt_top = asked.1.0; room = asked.1.1 }
 
 pub returns-then-kind-eq-NOT : goal.returns-then-kind-eq-NOT
 returns-then-kind-eq-NOT c =
