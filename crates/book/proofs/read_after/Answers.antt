@@ -7,7 +7,6 @@ use mathlib.Core.Bool.{true}
 use Rattle.book.specs.Book.{allowed}
 use Rattle.book.specs.ReadLawsSteps.{not-true, not-false}
 use Rattle.book.specs.CodeLaws.{after_lacking, after_nothing, after_empty, after_range, after_cat, after_alt, after_star, after_either, after_and, after_not, after_none}
-use borrow.Author.Rules.{rules}
 use Rattle.book.proofs.read_after.Goals as goal
 
 pub returns-then-not-allowed : goal.returns-then-not-allowed
