@@ -1,10 +1,10 @@
 -- `derivative::derive` meets its contract: one law of the limited derivative a call and a return. Assumes nothing.
-use Rattle.std.proofs.Common.{◌≡◌, ℕ, true, ◌∙◌, arith}
+use Rattle.std.proofs.Common.{ℕ, ◌∙◌, arith}
 use Rattle.meaning.specs.Limited.{deriv_fit}
 use Rattle.term.specs.Cells.{term}
 use Rattle.term.specs.CellLaws.{found}
 use Rattle.normal.specs.AnswerLaws.{Got, got}
-use Rattle.derivative.specs.Derives.{deriv_cells, rest_fit, rest_cells, both_sides}
+use Rattle.derivative.specs.Derives.{deriv_cells, rest_fit, rest_cells}
 use Rattle.derivative.specs.DeriveLaws.{leaf_asks, leaf_up, Parts, parts, first_asks, first_long, rest_asks, rest_long, both_asks, both_told, left_alone, second_asks, second_long, merge_asks, merge_up}
 use Rattle.derivative.proofs.+derive.Goals as goal
 use Rattle.derivative.proofs.+derive.Goals.{After-rest_of-rest, In-Term, In-Term-with_rest, In-Term-derive}

@@ -1,7 +1,6 @@
 -- `derivative::with_rest` meets its contract: what was made already stands as it is, or the answer of negated_fit or cat_fit does.
 -- Assumes nothing.
 use Rattle.derivative.specs.DeriveLaws.{rest_none, rest_turned, rest_behind, turned_asks}
-use borrow.Author.Rules.{rules}
 use Rattle.derivative.proofs.with_rest.Goals as goal
 
 pub returns-then-sided : goal.returns-then-sided

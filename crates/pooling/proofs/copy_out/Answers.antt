@@ -1,5 +1,5 @@
 -- `pooling::copy_out` meets its contract: one law a way through a turn, and one for the end of the loop. Assumes nothing.
-use Rattle.std.proofs.Common.{◌≡◌, ◌-◌, ◌<◌, length, sym, ◌∙◌, arith, length-set}
+use Rattle.std.proofs.Common.{◌≡◌, sym, ◌∙◌, arith, length-set}
 use Rattle.meaning.specs.PartLaws.{size_some}
 use Rattle.term.specs.Cells.{term}
 use Rattle.term.specs.Nodes.{arity_of}

@@ -1,6 +1,5 @@
 -- `pooling::put_copy` meets its contract: one law for a turn, and one for the end of the loop. Assumes nothing.
-use Rattle.std.proofs.Common.{◌≡◌, ◌-◌, ◌<◌, ◌≤◌, length, refl, arith}
-use Rattle.meaning.specs.Re.{Re}
+use Rattle.std.proofs.Common.{◌<◌, ◌≤◌, length, refl, arith}
 use Rattle.pooling.specs.PutLaws.{putting_first, root_inside, put_copied, fit, asks, put_inside, putting_next}
 use Rattle.pooling.proofs.put_copy.Goals as goal
 

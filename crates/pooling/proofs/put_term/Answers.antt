@@ -7,7 +7,6 @@ use Rattle.term.specs.CellLaws.{found}
 use Rattle.term.specs.ReadLaws.{leaf_below}
 use Rattle.pool.specs.IndexLaws.{open_less}
 use Rattle.pooling.specs.PutLaws.{put_held, put_leaf}
-use borrow.Author.Rules.{rules}
 use Rattle.pooling.proofs.put_term.Goals as goal
 
 pub returns-then-i-top : goal.returns-then-i-top
