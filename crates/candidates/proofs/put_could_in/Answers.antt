@@ -8,7 +8,7 @@ use Rattle.candidates.proofs.put_could_in.Goals as goal
 
 pub put_runs-requires : goal.put_runs-requires
 put_runs-requires c =
-    record { found_len = c.try_bytes.auto.1.1.0 ∙ c.requires.found_len; found_in_bounds = room_as _ (tried_line c.args.text.now _ _ c.args.p (copied c.args.text.now _ _ c.args.p _ c.requires.p_in_bounds c.put_text.ensures) c.try_bytes.ensures) c.requires.text_in_bounds }
+    record { found_len = c.try_bytes.auto.found ∙ c.requires.found_len; found_in_bounds = room_as _ (tried_line c.args.text.now _ _ c.args.p (copied c.args.text.now _ _ c.args.p _ c.requires.p_in_bounds c.put_text.ensures) c.try_bytes.ensures) c.requires.text_in_bounds }
 
 pub returns : goal.returns
 returns c =

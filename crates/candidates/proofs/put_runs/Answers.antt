@@ -59,7 +59,7 @@ put_byte-requires c =
 
 pub shape_of-out : goal.shape_of-out
 shape_of-out c =
-    omega (arith, c.loop-lo.invariant.2.same, c.put_byte.auto.1.0, c.put_text-end.auto.1.0)
+    omega (arith, c.loop-lo.invariant.2.same, c.put_byte.auto.out, c.put_text-end.auto.out)
 
 pub returns : goal.returns
 unfolding quoted

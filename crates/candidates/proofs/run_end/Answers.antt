@@ -1,5 +1,7 @@
 -- `candidates::run_end` meets its contract: the flags from the run's first up to hi are up, and each but the last has a neighbour.
 -- Assumes nothing.
+use mathlib.Core.Bool.{not}
+use mathlib.Core.Path.{ap}
 use native.Mathlib.Omega.{arith}
 use Prim.Native.Nat.{◌-◌}
 use mathlib.Core.Path.{sym, ◌∙◌}
@@ -26,7 +28,7 @@ pub alike-requires : goal.alike-requires
 alike-requires c = c.loop-hi-test.true
 
 pub returns-then-not-alike : goal.returns-then-not-alike
-returns-then-not-alike c = run_unlike _ _ _ (sym (not-true c.alike.result c.if-not-alike.true) ∙ c.alike.ensures) c.loop-hi.invariant
+returns-then-not-alike c = run_unlike _ _ _ (sym (not-true c.alike.result (ap not c.if-not-alike.true)) ∙ c.alike.ensures) c.loop-hi.invariant
 
 pub overflow_add-hi-in-loop-hi-2 : goal.overflow_add-hi-in-loop-hi-2
 overflow_add-hi-in-loop-hi-2 c = omega arith
@@ -35,7 +37,7 @@ pub loop-hi-smaller : goal.loop-hi-smaller
 loop-hi-smaller c = omega arith
 
 pub loop-hi-preserved : goal.loop-hi-preserved
-loop-hi-preserved c = up_more _ _ _ c.loop-hi-test.true c.if-found-hi-eq0.false (sym (not-false c.alike.result c.if-not-alike.false) ∙ c.alike.ensures) c.loop-hi.invariant
+loop-hi-preserved c = up_more _ _ _ c.loop-hi-test.true c.if-found-hi-eq0.false (sym (not-false c.alike.result (ap not c.if-not-alike.false)) ∙ c.alike.ensures) c.loop-hi.invariant
 
 pub returns : goal.returns
 returns c = run_ends _ _ _ c.loop-hi-test.false c.loop-hi.invariant

@@ -7,11 +7,11 @@ use Rattle.compare_lines.proofs.compare_lines.Goals as goal
 
 pub returns-then-book-gt-BOOK_FILE : goal.returns-then-book-gt-BOOK_FILE
 returns-then-book-gt-BOOK_FILE c =
-    record { writes = writes_as (compare_no_book c.args.book.now c.args.sheet.now c.if-book-gt-BOOK_FILE.true) c.put_refused.ensures.writes; upper_bound = omega (arith, c.requires, c.put_refused.ensures.upper_bound, c.put_refused.auto.1.0) }
+    record { writes = writes_as (compare_no_book c.args.book.now c.args.sheet.now c.if-book-gt-BOOK_FILE.true) c.put_refused.ensures.writes; upper_bound = omega (arith, c.requires, c.put_refused.ensures.upper_bound, c.put_refused.auto.out) }
 
 pub returns-then-sheet-gt-SHEET_FILE : goal.returns-then-sheet-gt-SHEET_FILE
 returns-then-sheet-gt-SHEET_FILE c =
-    record { writes = writes_as (compare_no_sheet c.args.book.now c.args.sheet.now c.if-book-gt-BOOK_FILE.false c.if-sheet-gt-SHEET_FILE.true) c.put_refused-then-sheet-gt-SHEET_FILE.ensures.writes; upper_bound = omega (arith, c.requires, c.put_refused-then-sheet-gt-SHEET_FILE.ensures.upper_bound, c.put_refused-then-sheet-gt-SHEET_FILE.auto.1.0) }
+    record { writes = writes_as (compare_no_sheet c.args.book.now c.args.sheet.now c.if-book-gt-BOOK_FILE.false c.if-sheet-gt-SHEET_FILE.true) c.put_refused-then-sheet-gt-SHEET_FILE.ensures.writes; upper_bound = omega (arith, c.requires, c.put_refused-then-sheet-gt-SHEET_FILE.ensures.upper_bound, c.put_refused-then-sheet-gt-SHEET_FILE.auto.out) }
 
 pub returns : goal.returns
 returns c =

@@ -16,5 +16,5 @@ compare_part-answer-requires c =
 
 pub returns : goal.returns
 returns c =
-    compare_done _ _ _ _ _ _ c.if-room-lt-SHOWN_TEXT.false c.if-work-lt-WORK_LENGTH.false _ _ c.compare_part-answer.new.#1.1.1.1.1.0 _ _
-    c.fill.auto.0 c.compare_part-answer.ensures c.compare_part-answer.auto.1.1.1.1.1.0 c.clear.ensures
+    compare_done _ _ _ _ _ _ c.if-room-lt-SHOWN_TEXT.false c.if-work-lt-WORK_LENGTH.false _ _ c.compare_part-answer.new.work _ _
+    c.fill.auto.cells c.compare_part-answer.ensures c.compare_part-answer.auto.work c.clear.ensures

@@ -1,5 +1,7 @@
 -- `expression::marks` meets its contract: the marks up to p are read.
 -- Assumes nothing.
+use mathlib.Core.Bool.{not}
+use mathlib.Core.Path.{ap}
 use borrow.Author.Rules.{rules}
 use native.Mathlib.Omega.{arith}
 use mathlib.Core.Path.{refl, sym, ◌∙◌}
@@ -24,7 +26,7 @@ pub shape_of-cells-then-not-is_mark : goal.shape_of-cells-then-not-is_mark
 shape_of-cells-then-not-is_mark c = c.loop-p.invariant.same
 
 pub returns-then-not-is_mark : goal.returns-then-not-is_mark
-returns-then-not-is_mark c = marks_as c.in-At.is (marks_done _ _ _ _ _ _ _ c.loop-p.invariant _ (byte_inside _ _ c.loop-p-test.true) (sym (not-true c.is_mark.result c.if-not-is_mark.true) ∙ c.is_mark.ensures))
+returns-then-not-is_mark c = marks_as c.in-At.is (marks_done _ _ _ _ _ _ _ c.loop-p.invariant _ (byte_inside _ _ c.loop-p-test.true) (sym (not-true c.is_mark.result (ap not c.if-not-is_mark.true)) ∙ c.is_mark.ensures))
 
 pub mark-t-requires : goal.mark-t-requires
 mark-t-requires c = c.loop-p.invariant.same ∙ c.requires
@@ -36,7 +38,7 @@ pub loop-p-smaller : goal.loop-p-smaller
 loop-p-smaller c = omega arith
 
 pub loop-p-preserved : goal.loop-p-preserved
-loop-p-preserved c = marks_more _ _ _ _ _ _ _ c.loop-p.invariant _ _ _ c.loop-p-test.true (byte_inside _ _ c.loop-p-test.true) (sym (not-false c.is_mark.result c.if-not-is_mark.false) ∙ c.is_mark.ensures) c.mark-t.ensures
+loop-p-preserved c = marks_more _ _ _ _ _ _ _ c.loop-p.invariant _ _ _ c.loop-p-test.true (byte_inside _ _ c.loop-p-test.true) (sym (not-false c.is_mark.result (ap not c.if-not-is_mark.false)) ∙ c.is_mark.ensures) c.mark-t.ensures
 
 pub shape_of-cells : goal.shape_of-cells
 shape_of-cells c = c.loop-p.invariant.same

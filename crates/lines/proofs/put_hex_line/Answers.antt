@@ -14,8 +14,8 @@ loop-i-init c = (refl, c.requires, omega arith, λ s next w. w)
 
 pub loop-i-preserved : goal.loop-i-preserved
 loop-i-preserved c = (
-  omega (arith, c.loop-i.invariant.0, c.put_hex-end.auto.1.0),
-  omega (arith, c.loop-i.invariant.1, c.loop-i-test.true, c.put_hex-end.ensures.place, c.put_hex-end.auto.1.0),
+  omega (arith, c.loop-i.invariant.0, c.put_hex-end.auto.out),
+  omega (arith, c.loop-i.invariant.1, c.loop-i-test.true, c.put_hex-end.ensures.place, c.put_hex-end.auto.out),
   omega (arith, c.loop-i.invariant.2, c.loop-i-test.true, c.put_hex-end.ensures.place),
   λ s next w. c.loop-i.invariant.3 s next (hex_more c.args.text.now c.loop-i.i c.loop-i-test.true (omega (arith, c.loop-i.invariant.1)) c.put_hex-end.ensures w),
 )

@@ -11,7 +11,7 @@ put_decimal-after-requires c =
 
 pub put_byte-requires : goal.put_byte-requires
 put_byte-requires c =
-    omega (arith, decimal_fits c.args.n c.ranges.n.fits, c.requires, c.put_decimal-after.ensures.place, c.put_decimal-after.auto.1.0)
+    omega (arith, decimal_fits c.args.n c.ranges.n.fits, c.requires, c.put_decimal-after.ensures.place, c.put_decimal-after.auto.out)
 
 pub returns : goal.returns
 returns c =

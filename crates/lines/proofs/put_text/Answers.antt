@@ -13,8 +13,8 @@ loop-i-init c = (refl, c.requires, λ s next w. w)
 
 pub loop-i-preserved : goal.loop-i-preserved
 loop-i-preserved c = (
-  omega (arith, c.loop-i.invariant.0, c.put_byte-end.auto.1.0),
-  omega (arith, c.loop-i.invariant.1, c.loop-i-test.true, c.put_byte-end.ensures.place, c.put_byte-end.auto.1.0),
+  omega (arith, c.loop-i.invariant.0, c.put_byte-end.auto.out),
+  omega (arith, c.loop-i.invariant.1, c.loop-i-test.true, c.put_byte-end.ensures.place, c.put_byte-end.auto.out),
   λ s next w. c.loop-i.invariant.2 s next (text_more c.args.text.now c.loop-i.i c.loop-i-test.true (omega (arith, c.loop-i.invariant.1)) c.put_byte-end.ensures w),
 )
 

@@ -25,7 +25,8 @@ compare_terms-order-requires c =
     let p : Heads c.args.join c.args.cells.now c.args.a c.head_of-head.result = heads m.sorts m.left x c.head_of-head.ensures in
     let y : Found c.args.cells.now c.args.b c.node_at-y.result = found _ _ _ _ m.right_sound (omega arith) c.node_at-y.ensures in
     let q : Heads c.args.join c.args.cells.now c.args.b c.head_of-rival.result = heads m.sorts m.right y c.head_of-rival.ensures in
-    heads_ask m p q
+    let asked = heads_ask m p q in
+    record { sound = asked.0; sound_2 = asked.1.0; i_value = asked.1.1 }
 
 pub returns-then-joins : goal.returns-then-joins
 returns-then-joins c =

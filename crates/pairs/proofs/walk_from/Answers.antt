@@ -26,17 +26,17 @@ hold_first-begun-requires c = c.first_vector-first.ensures.first c.if-first.fals
 
 pub returns-in_default : goal.returns-in_default
 returns-in_default c =
-    let terms : (normalised (rules_in c.args.book.now) ≡ Terms (vector_of c.first_vector-first.new.#1.1.1.0 c.args.n c.first_vector-first.result.vector.at)) = c.first_vector-first.ensures.terms c.if-first.false in
+    let terms : (normalised (rules_in c.args.book.now) ≡ Terms (vector_of c.first_vector-first.new.cells c.args.n c.first_vector-first.result.vector.at)) = c.first_vector-first.ensures.terms c.if-first.false in
     walk_stops _ _ _ _ _ terms _ _ c.hold_first-begun.ensures.begins _ c.in_default.is
 
 pub walk_rows-requires : goal.walk_rows-requires
 walk_rows-requires c =
-    let terms : (normalised (rules_in c.args.book.now) ≡ Terms (vector_of c.first_vector-first.new.#1.1.1.0 c.args.n c.first_vector-first.result.vector.at)) = c.first_vector-first.ensures.terms c.if-first.false in
+    let terms : (normalised (rules_in c.args.book.now) ≡ Terms (vector_of c.first_vector-first.new.cells c.args.n c.first_vector-first.result.vector.at)) = c.first_vector-first.ensures.terms c.if-first.false in
     let x = c.first_vector-first.ensures.indexed c.if-first.false in
     record { beside = walk_beside _ _ _ _ _ terms _ _ c.hold_first-begun.ensures.begins _ _ _ c.in-Reached.is c.requires.has_row; closed = c.requires.closed; indexed = followed (c.hold_first-begun.ensures.keeps.keeps _ x) c.in-Reached.is }
 
 pub returns : goal.returns
 returns c =
-    let terms : (normalised (rules_in c.args.book.now) ≡ Terms (vector_of c.first_vector-first.new.#1.1.1.0 c.args.n c.first_vector-first.result.vector.at)) = c.first_vector-first.ensures.terms c.if-first.false in
+    let terms : (normalised (rules_in c.args.book.now) ≡ Terms (vector_of c.first_vector-first.new.cells c.args.n c.first_vector-first.result.vector.at)) = c.first_vector-first.ensures.terms c.if-first.false in
     walk_ends c.args.targets.now _ _ _ _ terms _ _ c.hold_first-begun.ensures.begins _ _ _
-    c.in-Reached.is c.walk_rows.new.#1.0 c.walk_rows.result c.walk_rows.ensures
+    c.in-Reached.is c.walk_rows.new.cells c.walk_rows.result c.walk_rows.ensures

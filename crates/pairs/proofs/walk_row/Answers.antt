@@ -59,25 +59,25 @@ returns-in_default c =
 pub load-requires : goal.load-requires
 load-requires c =
     let onward : (Onward c.args.cells.now c.args.n c.args.top c.args.count c.args.i c.args.targets.now c.number_told-place.result (c.state_of-base.result * bytes)
-    c.step-went.new.#1.0 c.in-Reached.above c.in-Reached.more c.loop-c.c) = turn_on _ _ _ _ _ _ _ _ _ _ _ _ c.loop-c.invariant.0 c.requires.closed c.loop-c-test.true _ refl _ _ c.step-went.ensures.steps _ _ _ c.in-Reached.is in
+    c.step-went.new.cells c.in-Reached.above c.in-Reached.more c.loop-c.c) = turn_on _ _ _ _ _ _ _ _ _ _ _ _ c.loop-c.invariant.0 c.requires.closed c.loop-c-test.true _ refl _ _ c.step-went.ensures.steps _ _ _ c.in-Reached.is in
     onward.within
 
 pub edge_of-edge-requires : goal.edge_of-edge-requires
 edge_of-edge-requires c =
     let onward : (Onward c.args.cells.now c.args.n c.args.top c.args.count c.args.i c.args.targets.now c.number_told-place.result (c.state_of-base.result * bytes)
-    c.step-went.new.#1.0 c.in-Reached.above c.in-Reached.more c.loop-c.c) = turn_on _ _ _ _ _ _ _ _ _ _ _ _ c.loop-c.invariant.0 c.requires.closed c.loop-c-test.true _ refl _ _ c.step-went.ensures.steps _ _ _ c.in-Reached.is in
+    c.step-went.new.cells c.in-Reached.above c.in-Reached.more c.loop-c.c) = turn_on _ _ _ _ _ _ _ _ _ _ _ _ c.loop-c.invariant.0 c.requires.closed c.loop-c-test.true _ refl _ _ c.step-went.ensures.steps _ _ _ c.in-Reached.is in
     record { reads_short = onward.reads_on c.load.ensures; byte_le_last_byte = omega (arith, c.loop-c-test.true) }
 
 pub overflow_add-base : goal.overflow_add-base
 overflow_add-base c =
     let onward : (Onward c.args.cells.now c.args.n c.args.top c.args.count c.args.i c.args.targets.now c.number_told-place.result (c.state_of-base.result * bytes)
-    c.step-went.new.#1.0 c.in-Reached.above c.in-Reached.more c.loop-c.c) = turn_on _ _ _ _ _ _ _ _ _ _ _ _ c.loop-c.invariant.0 c.requires.closed c.loop-c-test.true _ refl _ _ c.step-went.ensures.steps _ _ _ c.in-Reached.is in
+    c.step-went.new.cells c.in-Reached.above c.in-Reached.more c.loop-c.c) = turn_on _ _ _ _ _ _ _ _ _ _ _ _ c.loop-c.invariant.0 c.requires.closed c.loop-c-test.true _ refl _ _ c.step-went.ensures.steps _ _ _ c.in-Reached.is in
     omega (arith, onward.fits c.load.ensures c.edge_of-edge.ensures, c.well_formed.1.1.1.1.1.1.0)
 
 pub run_end-requires : goal.run_end-requires
 run_end-requires c =
     let onward : (Onward c.args.cells.now c.args.n c.args.top c.args.count c.args.i c.args.targets.now c.number_told-place.result (c.state_of-base.result * bytes)
-    c.step-went.new.#1.0 c.in-Reached.above c.in-Reached.more c.loop-c.c) = turn_on _ _ _ _ _ _ _ _ _ _ _ _ c.loop-c.invariant.0 c.requires.closed c.loop-c-test.true _ refl _ _ c.step-went.ensures.steps _ _ _ c.in-Reached.is in
+    c.step-went.new.cells c.in-Reached.above c.in-Reached.more c.loop-c.c) = turn_on _ _ _ _ _ _ _ _ _ _ _ _ c.loop-c.invariant.0 c.requires.closed c.loop-c-test.true _ refl _ _ c.step-went.ensures.steps _ _ _ c.in-Reached.is in
     let o = onward in
     record { from_lt_end = o.some c.load.ensures c.edge_of-edge.ensures; end_in_bounds = o.fits c.load.ensures c.edge_of-edge.ensures }
 
@@ -91,7 +91,7 @@ loop-c-smaller c =
 pub loop-c-preserved : goal.loop-c-preserved
 loop-c-preserved c =
     let onward : (Onward c.args.cells.now c.args.n c.args.top c.args.count c.args.i c.args.targets.now c.number_told-place.result (c.state_of-base.result * bytes)
-    c.step-went.new.#1.0 c.in-Reached.above c.in-Reached.more c.loop-c.c) = turn_on _ _ _ _ _ _ _ _ _ _ _ _ c.loop-c.invariant.0 c.requires.closed c.loop-c-test.true _ refl _ _ c.step-went.ensures.steps _ _ _ c.in-Reached.is in (
+    c.step-went.new.cells c.in-Reached.above c.in-Reached.more c.loop-c.c) = turn_on _ _ _ _ _ _ _ _ _ _ _ _ c.loop-c.invariant.0 c.requires.closed c.loop-c-test.true _ refl _ _ c.step-went.ensures.steps _ _ _ c.in-Reached.is in (
       onward.next c.load.ensures c.edge_of-edge.ensures c.run_end.ensures,
       search rules,
       followed c.step-went.ensures.follows c.in-Reached.is,

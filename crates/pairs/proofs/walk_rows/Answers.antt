@@ -31,7 +31,7 @@ loop-i-smaller c = omega (arith, c.loop-i.invariant.0.beside.few, c.loop-i-test.
 
 pub loop-i-preserved : goal.loop-i-preserved
 loop-i-preserved c = (
-  rounds_next _ _ _ _ _ _ _ _ _ c.loop-i.invariant.0 c.loop-i-test.true _ _ c.walk_row-went.ensures.ends c.walk_row-went.auto.1.0 _ _ _ c.in-Reached.is,
+  rounds_next _ _ _ _ _ _ _ _ _ c.loop-i.invariant.0 c.loop-i-test.true _ _ c.walk_row-went.ensures.ends c.walk_row-went.auto.cells _ _ _ c.in-Reached.is,
   search rules,
   followed c.walk_row-went.ensures.follows c.in-Reached.is,
 )

@@ -34,7 +34,7 @@ put_byte-requires c =
 
 pub shape_of-out : goal.shape_of-out
 shape_of-out c =
-    omega (arith, c.loop-i.invariant.same, c.put_byte-below.auto.1.0, c.put_byte.auto.1.0)
+    omega (arith, c.loop-i.invariant.same, c.put_byte-below.auto.out, c.put_byte.auto.out)
 
 pub returns : goal.returns
 returns c =

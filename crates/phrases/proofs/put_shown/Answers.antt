@@ -21,7 +21,7 @@ put_byte-requires c =
 
 pub shape_of-out-then-text-i-eq-NEWLINE : goal.shape_of-out-then-text-i-eq-NEWLINE
 shape_of-out-then-text-i-eq-NEWLINE c =
-    omega (arith, c.loop-i.invariant.same, c.put_byte.auto.1.0)
+    omega (arith, c.loop-i.invariant.same, c.put_byte.auto.out)
 
 pub returns-then-text-i-eq-NEWLINE : goal.returns-then-text-i-eq-NEWLINE
 returns-then-text-i-eq-NEWLINE c =
@@ -50,7 +50,7 @@ put_byte-requires-2 c =
 
 pub shape_of-out : goal.shape_of-out
 shape_of-out c =
-    omega (arith, c.loop-i.invariant.same, c.put_byte-2.auto.1.0)
+    omega (arith, c.loop-i.invariant.same, c.put_byte-2.auto.out)
 
 pub returns : goal.returns
 returns c =

@@ -27,7 +27,7 @@ returns-then-arity-eq0 c =
 
 pub put_copy-requires : goal.put_copy-requires
 put_copy-requires c =
-    record { some_copied = record { v = _; c.copy_out-start.ensures = c.copy_out-start.ensures }; fact = open_less _ c.requires.fact (omega (arith, c.copy_out-start.ensures.few, c.requires.i_bound)) }
+    record { some_copied = record { v = _; start = c.copy_out-start.ensures }; fact = open_less _ c.requires.fact (omega (arith, c.copy_out-start.ensures.few, c.requires.i_bound)) }
 
 pub returns : goal.returns
 returns c =

@@ -86,7 +86,7 @@ loop-left-preserved c =
     let run-laid = rw width at c.fill.ensures in
     let rest = more_runs c.args.sheet.now c.args.s (c.loop-left.left - 1) (c.loop-left.covered + c.in-Value.len) c.in-Value-leads.target c.in-Value-leads.next in (
       c.if-end-gt-BYTES.false,
-      c.fill.auto.0 ∙ c.loop-left.invariant.1,
+      c.fill.auto.cells ∙ c.loop-left.invariant.1,
       λ t r h. c.loop-left.invariant.2 t r (row_more rest (replicate c.in-Value.len c.in-Value-leads.target) more (omega (arith, c.requires)) run-laid (omega arith) h),
     )
 

@@ -61,7 +61,7 @@ shape_of-labels-in_default-row c =
 
 pub shape_of-targets-in_default-row : goal.shape_of-targets-in_default-row
 shape_of-targets-in_default-row c =
-    c.read_runs-row.auto.1.1.1.1.1.0 ∙ c.loop-left.invariant.2
+    c.read_runs-row.auto.targets ∙ c.loop-left.invariant.2
 
 pub returns-in_default-row : goal.returns-in_default-row
 returns-in_default-row c =
@@ -76,7 +76,7 @@ returns-in_default-row c =
 pub loop-left-preserved : goal.loop-left-preserved
 loop-left-preserved c =
     let runs-got : (RowGot (read_runs c.args.sheet.now c.args.s c.in-Value-count.m c.in-Value-count.at_runs)
-    c.loop-left.targets ((c.args.s - c.loop-left.left) * bytes) c.read_runs-row.new.#1.1.1.1.1.0 c.in-Value-row.next) = row_got c.read_runs-row.ensures (ap taken c.in-Value-row.is) in
+    c.loop-left.targets ((c.args.s - c.loop-left.left) * bytes) c.read_runs-row.new.targets c.in-Value-row.next) = row_got c.read_runs-row.ensures (ap taken c.in-Value-row.is) in
     let label-got : (field c.args.sheet.now 0 rules c.loop-left.place ≡ got c.in-Value.label c.in-Value.at_count) = sym c.read_field-named.ensures.answer ∙ ap taken c.in-Value.is in
     let count-got : (field c.args.sheet.now 1 bytes c.in-Value.at_count ≡ got c.in-Value-count.m c.in-Value-count.at_runs) = sym c.read_field-count.ensures.answer ∙ ap taken c.in-Value-count.is in
     let g = runs-got in
@@ -87,7 +87,7 @@ loop-left-preserved c =
     let rest = more_states c.args.sheet.now c.args.s (c.loop-left.left - 1) c.in-Value-row.next in (
       omega (arith, c.loop-left.invariant.0),
       simp length-set c.loop-left.invariant.1,
-      c.read_runs-row.auto.1.1.1.1.1.0 ∙ c.loop-left.invariant.2,
+      c.read_runs-row.auto.targets ∙ c.loop-left.invariant.2,
       λ ls ts r h. c.loop-left.invariant.3 ls ts r (rows_more rest c.in-Value.label g.row more
           (omega (arith, c.loop-left.invariant.0, c.loop-left.invariant.1, c.requires.2)) (omega (arith, c.loop-left.invariant.0, c.loop-left.invariant.2, c.requires.3)) refl g.cells size
           (omega (arith, c.loop-left.invariant.0)) h),

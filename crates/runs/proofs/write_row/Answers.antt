@@ -22,10 +22,10 @@ pub write_runs-requires : goal.write_runs-requires
 write_runs-requires c =
     let row-long : (let row = slice c.args.from c.args.end c.args.targets.now in
     length (write_row row) ≡ length (write_number c.count_runs.result) + length (write_runs (runs_of row))) = rw c.count_runs.ensures (row_is _) in
-    let count-written : (Writes (write_number c.count_runs.result) c.args.out.now c.write_number-at_runs.new.#1.0 c.args.at c.write_number-at_runs.result) = record { place = c.write_number-at_runs.ensures.value; out = c.write_number-at_runs.ensures.out_after } in
-    record { from_le_end = (omega arith, omega arith, omega arith); targets_in_bounds = omega (arith, row-long, count-written.place, c.write_number-at_runs.auto.1.0) }
+    let count-written : (Writes (write_number c.count_runs.result) c.args.out.now c.write_number-at_runs.new.out c.args.at c.write_number-at_runs.result) = record { place = c.write_number-at_runs.ensures.value; out = c.write_number-at_runs.ensures.out_after } in
+    record { from_le_end = (omega arith, omega arith, omega arith); targets_in_bounds = omega (arith, row-long, count-written.place, c.write_number-at_runs.auto.out) }
 
 pub returns : goal.returns
 returns c =
-    let count-written : (Writes (write_number c.count_runs.result) c.args.out.now c.write_number-at_runs.new.#1.0 c.args.at c.write_number-at_runs.result) = record { place = c.write_number-at_runs.ensures.value; out = c.write_number-at_runs.ensures.out_after } in
+    let count-written : (Writes (write_number c.count_runs.result) c.args.out.now c.write_number-at_runs.new.out c.args.at c.write_number-at_runs.result) = record { place = c.write_number-at_runs.ensures.value; out = c.write_number-at_runs.ensures.out_after } in
     row_written _ c.count_runs.ensures (omega arith) count-written c.write_runs.ensures

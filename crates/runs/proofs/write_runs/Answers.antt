@@ -33,26 +33,26 @@ overflow_cast-targets c = omega (arith, c.type_inv.targets c.loop-start.start)
 
 pub write_number-next-requires : goal.write_number-next-requires
 write_number-next-requires c =
-    let len-written : (Writes (write_number (c.run_end-stop.result - c.loop-start.start)) c.loop-start.out c.write_number-at_target.new.#1.0 c.loop-start.next c.write_number-at_target.result) = record { place = c.write_number-at_target.ensures.value; out = c.write_number-at_target.ensures.out_after } in
-    record { n_lt_three_groups = omega (arith, c.type_inv.targets c.loop-start.start); n_in_bounds = omega (arith, c.loop-start.invariant.3, len-written.place, c.write_number-at_target.auto.1.0, part_some c.run_end-stop.ensures) }
+    let len-written : (Writes (write_number (c.run_end-stop.result - c.loop-start.start)) c.loop-start.out c.write_number-at_target.new.out c.loop-start.next c.write_number-at_target.result) = record { place = c.write_number-at_target.ensures.value; out = c.write_number-at_target.ensures.out_after } in
+    record { n_lt_three_groups = omega (arith, c.type_inv.targets c.loop-start.start); n_in_bounds = omega (arith, c.loop-start.invariant.3, len-written.place, c.write_number-at_target.auto.out, part_some c.run_end-stop.ensures) }
 
 pub loop-start-smaller : goal.loop-start-smaller
 loop-start-smaller c = omega arith
 
 pub loop-start-preserved : goal.loop-start-preserved
 loop-start-preserved c =
-    let len-written : (Writes (write_number (c.run_end-stop.result - c.loop-start.start)) c.loop-start.out c.write_number-at_target.new.#1.0 c.loop-start.next c.write_number-at_target.result) = record { place = c.write_number-at_target.ensures.value; out = c.write_number-at_target.ensures.out_after } in
-    let target-written : (Writes (write_number (get_or c.args.targets.now c.loop-start.start 0)) c.write_number-at_target.new.#1.0 c.write_number-next.new.#1.0
+    let len-written : (Writes (write_number (c.run_end-stop.result - c.loop-start.start)) c.loop-start.out c.write_number-at_target.new.out c.loop-start.next c.write_number-at_target.result) = record { place = c.write_number-at_target.ensures.value; out = c.write_number-at_target.ensures.out_after } in
+    let target-written : (Writes (write_number (get_or c.args.targets.now c.loop-start.start 0)) c.write_number-at_target.new.out c.write_number-next.new.out
     c.write_number-at_target.result c.write_number-next.result) = record { place = c.write_number-next.ensures.value; out = c.write_number-next.ensures.out_after } in
     let len = len-written in
     let target = target-written in (
       omega arith,
       omega arith,
-      omega (arith, c.loop-start.invariant.2, c.write_number-at_target.auto.1.0, c.write_number-next.auto.1.0),
-      omega (arith, c.loop-start.invariant.3, len.place, c.write_number-at_target.auto.1.0, target.place, c.write_number-next.auto.1.0, part_some c.run_end-stop.ensures),
+      omega (arith, c.loop-start.invariant.2, c.write_number-at_target.auto.out, c.write_number-next.auto.out),
+      omega (arith, c.loop-start.invariant.3, len.place, c.write_number-at_target.auto.out, target.place, c.write_number-next.auto.out, part_some c.run_end-stop.ensures),
       λ out' last w.
           c.loop-start.invariant.4 out' last
-          (runs_written c.run_end-stop.ensures (omega (arith, c.loop-start.invariant.3)) (omega (arith, c.loop-start.invariant.3, len.place, c.write_number-at_target.auto.1.0, part_some c.run_end-stop.ensures)) len target w),
+          (runs_written c.run_end-stop.ensures (omega (arith, c.loop-start.invariant.3)) (omega (arith, c.loop-start.invariant.3, len.place, c.write_number-at_target.auto.out, part_some c.run_end-stop.ensures)) len target w),
     )
 
 pub shape_of-out : goal.shape_of-out

@@ -14,7 +14,7 @@ returns-in-Refused c =
 pub returns-in-Bytes : goal.returns-in-Bytes
 returns-in-Bytes c =
     let built = build_gave c.args.book.now c.args.labels.now c.args.targets.now c.args.work.now c.requires.states_in_bounds c.requires.table_cells_in_bounds c.requires.work_length_in_bounds _ _ _ _ _ c.in-States.is c.build.ensures in
-    puts_sheet _ _ _ _ _ _ built c.requires.longest_sheet_in_bounds _ _ c.in-Bytes.is (omega (arith, c.write_sheet.auto.1.1.1.0)) c.write_sheet.ensures
+    puts_sheet _ _ _ _ _ _ built c.requires.longest_sheet_in_bounds _ _ c.in-Bytes.is (omega (arith, c.write_sheet.auto.out)) c.write_sheet.ensures
 
 pub returns-in-Unwritten : goal.returns-in-Unwritten
 returns-in-Unwritten c =

@@ -17,7 +17,9 @@ pub loop-order-init : goal.loop-order-init
 loop-order-init c = comparing_first c.requires.i_value refl refl
 
 pub compare_nodes-glance-requires : goal.compare_nodes-glance-requires
-compare_nodes-glance-requires c = nodes_asked c.loop-order.invariant c.requires.sound c.requires.sound_2
+compare_nodes-glance-requires c =
+    let asked = nodes_asked c.loop-order.invariant c.requires.sound c.requires.sound_2 in
+    record { sound = asked.0; sound_2 = asked.1 }
 
 pub returns-then-waiting-eq0 : goal.returns-then-waiting-eq0
 returns-then-waiting-eq0 c =

@@ -20,7 +20,7 @@ pub loop-k-preserved : goal.loop-k-preserved
 loop-k-preserved c =
     let left : c.args.count - c.loop-k.k ≡ suc (c.args.count - (c.loop-k.k + 1)) = omega (arith, c.loop-k-test.true) in (
       omega (arith, c.loop-k-test.true),
-      omega (arith, c.loop-k.invariant.1, c.put_word-end.auto.1.1.1.1.0),
+      omega (arith, c.loop-k.invariant.1, c.put_word-end.auto.out),
       omega (arith, c.loop-k.invariant.2, c.put_word-end.ensures.upper_bound),
       λ s next w. c.loop-k.invariant.3 s next (lines_more (kind_by c.args.kinds.now) c.args.records.now c.loop-k.k _ _ _ left
           (omega (arith, c.requires.count_in_bounds_2, c.loop-k-test.true, c.loop-k.invariant.1, c.loop-k.invariant.2)) c.kind_at-kind.ensures c.put_word-end.ensures.writes w),

@@ -23,10 +23,10 @@ write_number-second-requires c = let i = in_of _ _ _ _ (sym c.out_of.ensures ∙
 
 pub write_number-first-requires : goal.write_number-first-requires
 write_number-first-requires c = let i = in_of _ _ _ _ (sym c.out_of.ensures ∙ c.if-out_of.false) in
-    record { n_lt_three_groups = omega (arith, i.2); n_in_bounds = omega (arith, i.0, i.2, width_most c.args.kind, width_most c.args.count, c.write_number-second.ensures.value, c.write_number-second.auto.1.0, c.requires.0.short, c.requires.0.book_is) }
+    record { n_lt_three_groups = omega (arith, i.2); n_in_bounds = omega (arith, i.0, i.2, width_most c.args.kind, width_most c.args.count, c.write_number-second.ensures.value, c.write_number-second.auto.out, c.requires.0.short, c.requires.0.book_is) }
 
 pub write_cells-end-requires : goal.write_cells-end-requires
-write_cells-end-requires c = let i = in_of _ _ _ _ (sym c.out_of.ensures ∙ c.if-out_of.false) in (omega (arith, i.2, c.requires.1), omega (arith, i.0, i.2, width_most c.args.kind, width_most c.args.count, c.write_number-second.ensures.value, c.write_number-second.auto.1.0, c.write_number-first.ensures.value, c.write_number-first.auto.1.0, c.requires.0.short, c.requires.0.book_is))
+write_cells-end-requires c = let i = in_of _ _ _ _ (sym c.out_of.ensures ∙ c.if-out_of.false) in (omega (arith, i.2, c.requires.1), omega (arith, i.0, i.2, width_most c.args.kind, width_most c.args.count, c.write_number-second.ensures.value, c.write_number-second.auto.out, c.write_number-first.ensures.value, c.write_number-first.auto.out, c.requires.0.short, c.requires.0.book_is))
 
 pub overflow_add-result : goal.overflow_add-result
 overflow_add-result c = let i = in_of _ _ _ _ (sym c.out_of.ensures ∙ c.if-out_of.false) in omega (arith, i.0)

@@ -40,8 +40,8 @@ write_row-next-requires c =
     let long : (length (write_states (slice c.loop-state.state c.args.count c.args.labels.now) (slice (c.loop-state.state * bytes) (c.args.count * bytes) c.args.targets.now))
     ≡ length (write_number (get_or c.args.labels.now c.loop-state.state 0)) + length (write_row (slice (c.loop-state.state * bytes) (c.loop-state.state * bytes + bytes) c.args.targets.now))
     + length (write_states (slice (c.loop-state.state + 1) c.args.count c.args.labels.now) (slice ((c.loop-state.state + 1) * bytes) (c.args.count * bytes) c.args.targets.now))) = states_some c.args.labels.now c.args.targets.now c.args.count c.loop-state.state (omega arith) (omega arith) (omega arith) in
-    let label-written : (Writes (write_number (get_or c.args.labels.now c.loop-state.state 0)) c.loop-state.out c.write_number-at_row.new.#1.0 c.loop-state.next c.write_number-at_row.result) = record { place = c.write_number-at_row.ensures.value; out = c.write_number-at_row.ensures.out_after } in
-    record { from_le_end = (omega arith, omega arith, omega arith); targets_in_bounds = omega (arith, long, label-written.place, c.write_number-at_row.auto.1.0, c.loop-state.invariant.2) }
+    let label-written : (Writes (write_number (get_or c.args.labels.now c.loop-state.state 0)) c.loop-state.out c.write_number-at_row.new.out c.loop-state.next c.write_number-at_row.result) = record { place = c.write_number-at_row.ensures.value; out = c.write_number-at_row.ensures.out_after } in
+    record { from_le_end = (omega arith, omega arith, omega arith); targets_in_bounds = omega (arith, long, label-written.place, c.write_number-at_row.auto.out, c.loop-state.invariant.2) }
 
 pub overflow_add-state : goal.overflow_add-state
 overflow_add-state c = omega arith
@@ -54,16 +54,16 @@ loop-state-preserved c =
     let long : (length (write_states (slice c.loop-state.state c.args.count c.args.labels.now) (slice (c.loop-state.state * bytes) (c.args.count * bytes) c.args.targets.now))
     ≡ length (write_number (get_or c.args.labels.now c.loop-state.state 0)) + length (write_row (slice (c.loop-state.state * bytes) (c.loop-state.state * bytes + bytes) c.args.targets.now))
     + length (write_states (slice (c.loop-state.state + 1) c.args.count c.args.labels.now) (slice ((c.loop-state.state + 1) * bytes) (c.args.count * bytes) c.args.targets.now))) = states_some c.args.labels.now c.args.targets.now c.args.count c.loop-state.state (omega arith) (omega arith) (omega arith) in
-    let label-written : (Writes (write_number (get_or c.args.labels.now c.loop-state.state 0)) c.loop-state.out c.write_number-at_row.new.#1.0 c.loop-state.next c.write_number-at_row.result) = record { place = c.write_number-at_row.ensures.value; out = c.write_number-at_row.ensures.out_after } in
+    let label-written : (Writes (write_number (get_or c.args.labels.now c.loop-state.state 0)) c.loop-state.out c.write_number-at_row.new.out c.loop-state.next c.write_number-at_row.result) = record { place = c.write_number-at_row.ensures.value; out = c.write_number-at_row.ensures.out_after } in
     let size = long in
     let head = label-written in (
       omega arith,
-      omega (arith, c.loop-state.invariant.1, c.write_number-at_row.auto.1.0, c.write_row-next.auto.1.1.1.0),
-      omega (arith, c.loop-state.invariant.2, size, head.place, c.write_number-at_row.auto.1.0, c.write_row-next.ensures.place, c.write_row-next.auto.1.1.1.0),
+      omega (arith, c.loop-state.invariant.1, c.write_number-at_row.auto.out, c.write_row-next.auto.out),
+      omega (arith, c.loop-state.invariant.2, size, head.place, c.write_number-at_row.auto.out, c.write_row-next.ensures.place, c.write_row-next.auto.out),
       λ out' last w.
           c.loop-state.invariant.3 out' last
           (states_written c.args.labels.now c.args.targets.now c.args.count c.loop-state.state (omega arith) c.requires.i_le_count.2 c.requires.i_le_count.3
-          (omega (arith, c.loop-state.invariant.2)) (omega (arith, c.loop-state.invariant.2, size, head.place, c.write_number-at_row.auto.1.0)) head c.write_row-next.ensures w),
+          (omega (arith, c.loop-state.invariant.2)) (omega (arith, c.loop-state.invariant.2, size, head.place, c.write_number-at_row.auto.out)) head c.write_row-next.ensures w),
     )
 
 pub shape_of-out : goal.shape_of-out

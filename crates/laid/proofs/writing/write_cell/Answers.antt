@@ -15,11 +15,11 @@ returns-then-x-ne-RANGE c = cell_plain _ _ _ _ _ (record { place = c.write_numbe
 
 pub write_number-second-requires : goal.write_number-second-requires
 write_number-second-requires c =
-    record { n_lt_three_groups = omega arith; n_in_bounds = omega (arith, c.write_number-first.ensures.value, code_width c.args.x, width_most (c.args.x / 8 / 256), c.write_number-first.auto.1.0) }
+    record { n_lt_three_groups = omega arith; n_in_bounds = omega (arith, c.write_number-first.ensures.value, code_width c.args.x, width_most (c.args.x / 8 / 256), c.write_number-first.auto.out) }
 
 pub write_number-requires : goal.write_number-requires
 write_number-requires c =
-    record { n_lt_three_groups = omega arith; n_in_bounds = omega (arith, c.write_number-first.ensures.value, c.write_number-second.ensures.value, code_width c.args.x, width_most (c.args.x / 8 / 256), width_most (c.args.x / 8 % 256), c.write_number-first.auto.1.0, c.write_number-second.auto.1.0) }
+    record { n_lt_three_groups = omega arith; n_in_bounds = omega (arith, c.write_number-first.ensures.value, c.write_number-second.ensures.value, code_width c.args.x, width_most (c.args.x / 8 / 256), width_most (c.args.x / 8 % 256), c.write_number-first.auto.out, c.write_number-second.auto.out) }
 
 pub returns : goal.returns
-returns c = cell_range _ _ _ _ _ (record { place = c.write_number-first.ensures.value; out = c.write_number-first.ensures.out_after }) _ _ _ _ c.if-x-ne-RANGE.false (omega arith) (omega (arith, c.write_number-first.ensures.value, code_width c.args.x, c.write_number-first.auto.1.0)) (record { place = c.write_number-second.ensures.value; out = c.write_number-second.ensures.out_after }) (record { place = c.write_number.ensures.value; out = c.write_number.ensures.out_after })
+returns c = cell_range _ _ _ _ _ (record { place = c.write_number-first.ensures.value; out = c.write_number-first.ensures.out_after }) _ _ _ _ c.if-x-ne-RANGE.false (omega arith) (omega (arith, c.write_number-first.ensures.value, code_width c.args.x, c.write_number-first.auto.out)) (record { place = c.write_number-second.ensures.value; out = c.write_number-second.ensures.out_after }) (record { place = c.write_number.ensures.value; out = c.write_number.ensures.out_after })
