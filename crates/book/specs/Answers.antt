@@ -9,7 +9,7 @@ use Rattle.number.specs.declared.Taken.TheVariants.{Value, Refused as NotTaken}
 use Rattle.number.specs.Refused.{Answer}
 use Rattle.number.specs.Refused.Answer.{got, refused}
 use Rattle.number.specs.Numbers.{field}
-use Rattle.number.specs.Reading.{Reader, ◌>>=◌, ◌>>◌, answer, here}
+use Rattle.number.specs.Reading.{Reader, ◌>>=◌, answer, here}
 use Rattle.book.specs.declared.Node.{Node}
 use Rattle.book.specs.declared.NodeRead.{NodeRead}
 use Rattle.book.specs.declared.NodeRead.TheVariants.{At, Refused as NoNode}

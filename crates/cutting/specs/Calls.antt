@@ -1,7 +1,6 @@
 -- What a cut answers and leaves in the lent list of records, for every input: the promise of cut cites this.
 -- Refusal 10 comes first and leaves the records as they were; records past the words are as before the call.
-use Rattle.std.specs.Prelude.{ℕ, Bool, true, false, cond, List, ◌++◌, length, drop}
-use Rattle.number.specs.declared.Refusal.{Refusal}
+use Rattle.std.specs.Prelude.{ℕ, cond, List, ◌++◌, length, drop}
 use Rattle.number.specs.declared.Refusal.TheVariants.{Loaded}
 use Rattle.number.specs.Refused.{Outcome}
 use Rattle.number.specs.Refused.Outcome.{gives, refuses}

@@ -61,5 +61,4 @@ returns-in-8 c =
 pub returns-in_default : goal.returns-in_default
 returns-in_default c =
     let known : allowed c.args.version c.args.code ≡ true = sym c.allowed.ensures ∙ not-false _ (ap not c.if-not-allowed.false) in
-    sym (after_none _ _ _ _ _ known c.in_default.in_default-own.rest.0.0.0.0.0.0.0.0.1 c.in_default.in_default-own.rest.0.0.0.0.0.0.0.1 c.in_default.in_default-own.rest.0.0.0.0.0.0.1 c.in_default.in_default-own.rest.0.0.0.0.0.1
-    c.in_default.in_default-own.rest.0.0.0.0.1 c.in_default.in_default-own.rest.0.0.0.1 c.in_default.in_default-own.rest.0.0.1 c.in_default.in_default-own.rest.0.1 c.in_default.in_default-own.rest.1)
+    sym (after_none _ _ _ _ _ known (search rules) (search rules) (search rules) (search rules) (search rules) (search rules) (search rules) (search rules) (search rules))

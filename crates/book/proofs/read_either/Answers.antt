@@ -3,7 +3,6 @@
 use mathlib.Core.Path.{sym}
 use Rattle.book.specs.AnswerLaws.{value_told, refusal_given}
 use Rattle.book.specs.CodeLaws.{either_refused, either_got}
-use borrow.Author.Rules.{rules}
 use Rattle.book.proofs.read_either.Goals as goal
 
 pub returns-in_default : goal.returns-in_default

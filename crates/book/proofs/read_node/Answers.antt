@@ -3,7 +3,6 @@
 use mathlib.Core.Path.{sym, ◌∙◌}
 use Rattle.book.specs.AnswerLaws.{value_told, refusal_given}
 use Rattle.book.specs.CodeLaws.{node_refused, node_got}
-use borrow.Author.Rules.{rules}
 use Rattle.book.proofs.read_node.Goals as goal
 
 pub returns-in_default : goal.returns-in_default

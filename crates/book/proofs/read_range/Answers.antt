@@ -6,7 +6,6 @@ use Rattle.number.specs.Numbers.{field}
 use Rattle.number.specs.Refused.Answer.{got}
 use Rattle.book.specs.AnswerLaws.{value_told, refusal_given}
 use Rattle.book.specs.CodeLaws.{range_lo_refused, range_hi_refused, range_got}
-use borrow.Author.Rules.{rules}
 use Rattle.book.proofs.read_range.Goals as goal
 
 pub returns-in_default : goal.returns-in_default

@@ -1,6 +1,5 @@
 -- `cutting::best_word` meets its contract: a label that is not 0 stands for a word.
 -- Assumes nothing.
-use borrow.Author.Rules.{rules}
 use Rattle.cutting.specs.WalkLaws.{better_word}
 use Rattle.cutting.proofs.best_word.Goals as goal
 

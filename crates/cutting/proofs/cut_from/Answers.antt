@@ -1,14 +1,13 @@
 -- `cutting::cut_from` meets its contract. The loop's invariant: what remains of the cut, laid behind the records so far, is the whole answer.
 -- The measure is how many records are free. Assumes nothing.
-use Prim.Native.Nat.{◌+◌, ◌-◌, ◌*◌, ◌/◌, ◌≤◌}
+use Prim.Native.Nat.{◌+◌, ◌*◌, ◌≤◌}
 use native.Mathlib.Omega.{arith}
-use mathlib.Core.Path.{◌≡◌, refl, ap}
-use borrow.Author.Rules.{rules}
+use mathlib.Core.Path.{refl, ap}
 use lib.ListN.{length, length-set}
 use Rattle.number.specs.Refused.{row_of}
-use Rattle.cutting.specs.Flat.{record_cells, Laid, laid, cut_cells_of}
+use Rattle.cutting.specs.Flat.{record_cells, Laid, laid}
 use Rattle.cutting.specs.TurnLaws.{stands_next, turn}
-use Rattle.cutting.specs.FirstLaws.{StandsBy, stands_first}
+use Rattle.cutting.specs.FirstLaws.{stands_first}
 use Rattle.cutting.specs.LayLaws.{over_cells, lay_cells, cells_none, cells_put, cells_start}
 use Rattle.cutting.proofs.cut_from.Goals as goal
 

@@ -1,15 +1,11 @@
 -- `cutting::cut_from` meets its contract. The loop's invariant: what remains of the cut, laid behind the records so far, is the whole answer.
 -- The measure is how many records are free. Assumes nothing.
-use Prim.Native.Nat.{◌+◌, ◌-◌, ◌*◌, ◌/◌, ◌≤◌}
-use native.Mathlib.Omega.{arith}
-use mathlib.Core.Path.{◌≡◌, refl, ap}
-use borrow.Author.Rules.{rules}
-use lib.ListN.{length, length-set}
-use Rattle.number.specs.Refused.{row_of}
-use Rattle.cutting.specs.Flat.{record_cells, Laid, laid, cut_cells_of}
-use Rattle.cutting.specs.TurnLaws.{stands_next, turn}
-use Rattle.cutting.specs.FirstLaws.{StandsBy, stands_first}
-use Rattle.cutting.specs.LayLaws.{over_cells, lay_cells, cells_none, cells_put, cells_start}
+use Prim.Native.Nat.{◌-◌, ◌/◌}
+use mathlib.Core.Path.{◌≡◌}
+use lib.ListN.{length}
+use Rattle.cutting.specs.Flat.{record_cells, cut_cells_of}
+use Rattle.cutting.specs.FirstLaws.{StandsBy}
+use Rattle.cutting.specs.LayLaws.{over_cells, lay_cells}
 use Rattle.cutting.proofs.cut_from.Given as goal
 
 abbrev pub invariant-loop-step : goal.invariant-loop-step

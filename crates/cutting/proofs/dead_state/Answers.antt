@@ -1,10 +1,7 @@
 -- `cutting::dead_state` meets its contract. The loop's invariant: the search from s on finds what the whole search finds.
 -- The measure is how many states are left. Assumes nothing.
-use Prim.Native.Nat.{◌-◌, ◌≤◌}
 use native.Mathlib.Omega.{arith}
-use mathlib.Core.Path.{◌≡◌, sym, ◌∙◌}
-use borrow.Author.Rules.{rules}
-use Rattle.cutting.specs.Dead.{dead_from, dead_of}
+use mathlib.Core.Path.{sym, ◌∙◌}
 use Rattle.cutting.specs.DeadLaws.{dead_start, dead_here, dead_past, dead_end}
 use Rattle.cutting.proofs.dead_state.Goals as goal
 

@@ -1,7 +1,6 @@
 -- `cutting::first_step` meets its contract: a table that passes its test can be walked.
 -- Assumes nothing.
 use mathlib.Core.Path.{sym, ◌∙◌}
-use borrow.Author.Rules.{rules}
 use Rattle.cutting.specs.WalkLaws.{well_walkable}
 use Rattle.cutting.specs.FirstLaws.{first_refused, first_goes}
 use Rattle.cutting.proofs.first_step.Goals as goal

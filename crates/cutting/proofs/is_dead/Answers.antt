@@ -1,15 +1,14 @@
 -- `cutting::is_dead` meets its contract. The loop's invariant: the flag tells whether no byte below c leads out.
 -- The measure is how many bytes are left. Assumes nothing.
-use Prim.Native.Nat.{◌+◌, ◌-◌, ◌*◌, ◌≤◌}
+use Prim.Native.Nat.{◌+◌, ◌*◌}
 use native.Mathlib.Omega.{arith}
 use mathlib.Core.Path.{◌≡◌, sym, ap, ◌∙◌}
-use mathlib.Core.Logic.{⊎_elim}
-use borrow.Author.Rules.{rules}
 use Rattle.number.specs.Limits.{bytes}
 use Rattle.cutting.specs.Dead.{keeps}
 use Rattle.cutting.specs.DeadLaws.{keeps_none, keeps_more, keeps_not, dead_not, dead_told}
 use Rattle.cutting.proofs.Byte.{wide}
 use Rattle.cutting.proofs.is_dead.Goals as goal
+use Rattle.cutting.proofs.is_dead.Goals.{then-targets-row, else-targets-row}
 
 pub returns-then-labels-state-ne0 : goal.returns-then-labels-state-ne0
 returns-then-labels-state-ne0 c = dead_not _ _ _ (λ d. c.if-labels-state-ne0.true d.unlabelled)
@@ -28,10 +27,10 @@ loop-c-init c = (omega arith, sym (keeps_none _ _))
 pub loop-c-preserved : goal.loop-c-preserved
 loop-c-preserved c = (
   omega arith,
-  ⊎_elim
-      (λ w. w.1 ∙ keeps_not _ _ c.loop-c.c (λ e. w.0.taken (e ∙ sym c.if-first-state.false)))
-      (λ w. w.1 ∙ c.loop-c.invariant.1 ∙ keeps_more _ _ c.loop-c.c (w.0.left ∙ c.if-first-state.false))
-      c.if-targets-row.branch,
+  elim c.if-targets-row.branch [
+    | then-targets-row w ↦ w.stays-is ∙ keeps_not _ _ c.loop-c.c (λ e. w.if-targets-row.true (e ∙ sym c.if-first-state.false))
+    | else-targets-row w ↦ w.stays-is ∙ c.loop-c.invariant.1 ∙ keeps_more _ _ c.loop-c.c (w.if-targets-row.false ∙ c.if-first-state.false)
+  ],
 )
 
 pub returns : goal.returns

@@ -1,14 +1,9 @@
 -- `cutting::is_dead` meets its contract. The loop's invariant: the flag tells whether no byte below c leads out.
 -- The measure is how many bytes are left. Assumes nothing.
-use Prim.Native.Nat.{◌+◌, ◌-◌, ◌*◌, ◌≤◌}
-use native.Mathlib.Omega.{arith}
-use mathlib.Core.Path.{◌≡◌, sym, ap, ◌∙◌}
-use mathlib.Core.Logic.{⊎_elim}
-use borrow.Author.Rules.{rules}
+use Prim.Native.Nat.{◌-◌, ◌≤◌}
+use mathlib.Core.Path.{◌≡◌}
 use Rattle.number.specs.Limits.{bytes}
 use Rattle.cutting.specs.Dead.{keeps}
-use Rattle.cutting.specs.DeadLaws.{keeps_none, keeps_more, keeps_not, dead_not, dead_told}
-use Rattle.cutting.proofs.Byte.{wide}
 use Rattle.cutting.proofs.is_dead.Given as goal
 
 abbrev pub invariant-loop-c : goal.invariant-loop-c

@@ -2,7 +2,6 @@
 -- Assumes nothing.
 use native.Mathlib.Omega.{arith}
 use mathlib.Core.Path.{sym, ap, ◌∙◌}
-use borrow.Author.Rules.{rules}
 use Rattle.table.specs.Table.{lent}
 use Rattle.cutting.specs.Walk.{next}
 use Rattle.cutting.specs.CutLaws.{by_table, found_fits}

@@ -1,15 +1,10 @@
 -- `cutting::next_word` meets its contract. The loop's invariant: the state was reached by the byte at `end`, its label is still to be
 -- taken, and what remains of the scan is the whole scan. The measure is how many bytes are left. Assumes nothing.
-use Prim.Native.Nat.{ℕ, ◌+◌, ◌-◌, ◌<◌, ◌≤◌}
-use native.Mathlib.Omega.{arith}
-use mathlib.Core.Path.{sym, ◌∙◌}
-use borrow.Author.Rules.{rules}
-use lib.ListN.{length, get_or}
-use Rattle.number.specs.Limits.{bytes}
+use Prim.Native.Nat.{◌+◌, ◌-◌, ◌<◌, ◌≤◌}
+use lib.ListN.{length}
 use Rattle.meaning.specs.Words.{better}
 use Rattle.meaning.specs.Words.Found.{Stuck}
-use Rattle.cutting.specs.WalkLaws.{Along, better_new, along_none, along_start, along_dead, along_ends, goes_on, along_next}
-use Rattle.cutting.proofs.Byte.{wide}
+use Rattle.cutting.specs.WalkLaws.{Along}
 use Rattle.cutting.proofs.next_word.Given as goal
 
 abbrev pub invariant-loop-ran : goal.invariant-loop-ran

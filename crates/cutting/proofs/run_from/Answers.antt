@@ -1,12 +1,8 @@
 -- `cutting::run_from` meets its contract. The loop's invariant: the bytes from the start up to i stay in the state.
 -- The measure is how many bytes are left. Assumes nothing.
-use Prim.Native.Nat.{ℕ, ◌-◌, ◌<◌, ◌≤◌}
 use native.Mathlib.Omega.{arith}
 use native.Mathlib.Decide.{dec_lt}
 use mathlib.Core.Path.{◌≡◌, refl}
-use borrow.Author.Rules.{rules}
-use lib.ListN.{length}
-use Rattle.cutting.specs.Walk.{led}
 use Rattle.cutting.proofs.Byte.{wide}
 use Rattle.cutting.proofs.run_from.Goals as goal
 

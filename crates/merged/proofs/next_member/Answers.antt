@@ -1,10 +1,7 @@
 -- `merged::next_member` meets its contract: one law of the merge a return, by the order of the first members.
 -- Assumes nothing.
-use Prim.Native.Nat.{ℕ}
 use native.Mathlib.Omega.{arith}
 use mathlib.Core.Path.{◌≡◌, refl, sym, ap, ◌∙◌}
-use mathlib.Core.List.{List}
-use Rattle.meaning.specs.declared.Join.{Join}
 use Rattle.meaning.specs.Order.{order}
 use Rattle.term.specs.declared.Order.{Order}
 use Rattle.term.specs.declared.Order.TheVariants.{Less, Equal, Greater}
@@ -15,7 +12,6 @@ use Rattle.normal.specs.NodeLaws.{told_joins, told_single}
 use Rattle.merged.specs.Asked.{Meets}
 use Rattle.merged.specs.Merge.{Heads}
 use Rattle.merged.specs.MergeLaws.{heads, heads_ask, less_one, less_more, same_one, same_left, same_more, greater_one, greater_more}
-use borrow.Author.Rules.{rules}
 use Rattle.merged.proofs.next_member.Goals as goal
 
 pub compare_terms-order-requires : goal.compare_terms-order-requires
@@ -25,7 +21,8 @@ compare_terms-order-requires c =
     let p : Heads c.args.join c.args.cells.now c.args.a c.head_of-head.result = heads m.sorts m.left x c.head_of-head.ensures in
     let y : Found c.args.cells.now c.args.b c.node_at-y.result = found _ _ _ _ m.right_sound (omega arith) c.node_at-y.ensures in
     let q : Heads c.args.join c.args.cells.now c.args.b c.head_of-rival.result = heads m.sorts m.right y c.head_of-rival.ensures in
-    heads_ask m p q
+    let asked = heads_ask m p q in
+    record { sound = asked.0; sound_2 = asked.1.0; i_value = asked.1.1 }
 
 pub returns-then-joins : goal.returns-then-joins
 returns-then-joins c =

@@ -1,17 +1,13 @@
 -- `table::all_below` meets its contract. The loop's invariant: the test of all cells is the test of the largest so far and of those from i on.
 -- The measure is how many are left. Assumes nothing.
 use Prim.Native.Nat.{ℕ, ◌-◌, ◌<◌, ◌≤◌}
-use native.Mathlib.Omega.{arith}
-use mathlib.Core.Path.{◌≡◌, sym, ap, ◌∙◌}
-use mathlib.Core.Bool.{Bool, ◌&&◌}
-use mathlib.Core.Logic.{⊎_elim}
-use borrow.Author.Rules.{rules}
+use mathlib.Core.Path.{◌≡◌}
+use mathlib.Core.Bool.{◌&&◌}
 use lib.Dec.{ltb}
 use lib.ListN.{take}
 use lib.Seq.{slice}
 use Rattle.number.specs.Limits.{bytes}
 use Rattle.table.specs.Table.{all}
-use Rattle.table.specs.TableLaws.{second_larger, first_larger, below_next, below_over, below_some, below_all}
 use Rattle.table.proofs.all_below.Given as goal
 
 abbrev pub invariant-loop-i : goal.invariant-loop-i

@@ -1,12 +1,11 @@
 -- `table::fill` meets its contract. The loop's invariant: the cells from `from` up to i have the value.
 -- The measure is how many are left. Assumes nothing.
-use Prim.Native.Nat.{ℕ, ◌-◌, ◌≤◌}
+use Prim.Native.Nat.{ℕ}
 use native.Mathlib.Omega.{arith}
 use mathlib.Core.Path.{◌≡◌, refl, ap, ◌∙◌}
 use borrow.Author.Rules.{rules}
 use mathlib.Core.List.{List}
-use lib.ListN.{length, set, replicate}
-use Rattle.number.specs.Lists.{written}
+use lib.ListN.{set}
 use Rattle.table.specs.FillLaws.{filled_none, filled_more}
 use Rattle.table.proofs.fill.Goals as goal
 

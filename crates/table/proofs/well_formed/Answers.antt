@@ -2,7 +2,6 @@
 -- Assumes nothing.
 use native.Mathlib.Omega.{arith}
 use mathlib.Core.Path.{sym, ◌∙◌}
-use borrow.Author.Rules.{rules}
 use Rattle.table.specs.TableLaws.{well_none, well_over, well_labels_short, well_targets_short, well_cells}
 use Rattle.table.proofs.well_formed.Goals as goal
 
