@@ -10,7 +10,6 @@ use Rattle.number.specs.Limits.{nodes}
 use Rattle.book.specs.declared.Node.{Node}
 use Rattle.book.specs.declared.Node.TheVariants.{Nothing, Empty, Cat, Alt, Star}
 use Rattle.typed.specs.Exp.{postfix}
-use Rattle.typed.specs.Reader.Mark.{more}
 use Rattle.laid.specs.Laid.{pack, Capped, Lays, AddsCell, Adds, Again, mark_of, Marked}
 use Rattle.laid.specs.Laid.Capped.{fits, over}
 use Rattle.laid.specs.Laid.Lays.{lies, lost}

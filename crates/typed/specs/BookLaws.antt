@@ -2,7 +2,6 @@
 -- The length is by the widths of numbers: one byte below 128, two below 16,384.
 use Rattle.std.specs.Prelude.{ℕ, ◌+◌, ◌-◌, ◌*◌, ◌≤◌, ◌<◌, ◌≡◌, refl, List, [], ◌∷◌, ◌++◌, map, length}
 use Rattle.std.proofs.Common.{arith, sym, ap, subst, ◌∙◌, append-nil, length-append}
-use Rattle.std.proofs.Math.Option.Option.{some}
 use Rattle.number.specs.Limits.{group, two_groups, rules, nodes}
 use Rattle.number.specs.Numbers.{write_number}
 use Rattle.number.specs.NumberLaws.{Written, write_way}

@@ -21,7 +21,7 @@ use Rattle.typed.specs.Reader.Frame.{held}
 use Rattle.typed.specs.Reader.Mode.{plain}
 use Rattle.typed.specs.Reader.State.{at}
 use Rattle.typed.specs.Reader.Step.{wrong, go}
-use Rattle.typed.specs.Scan.{Reading, at_end, scan, after, then, accepted}
+use Rattle.typed.specs.Scan.{Reading, at_end, scan, after, accepted}
 use Rattle.typed.specs.Scan.Reading.{typed}
 use Rattle.typed.specs.ScanLaws.{after_append, after_none, typed_scan}
 use Rattle.typed.specs.LineReader.{Whole, begins, colon, on_digit, ends, stepped, turn, accept, at_first, read_lines}

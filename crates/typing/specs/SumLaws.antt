@@ -1,6 +1,6 @@
 -- One law a return of adding a line, of reading all lines and of finishing; and the loops of line_start and copy.
 -- A line in range adds its bytes to the book; after one that is not, only where it stands is kept.
-use Prim.Native.Nat.{ℕ, zero, suc, ◌+◌, ◌*◌, ◌-◌, ◌<◌, ◌≤◌}
+use Prim.Native.Nat.{ℕ, zero, suc, ◌+◌, ◌*◌, ◌<◌, ◌≤◌}
 use native.Mathlib.Omega.{arith}
 use Rattle.std.specs.Prelude.{◌≡◌, refl, Bool, true, false, ◌||◌, ltb, get_or, take, set as stored}
 use Rattle.std.proofs.Math.Path.{sym, ap}

@@ -1,7 +1,6 @@
 -- `expression::escape` meets its contract: one law a return.
 -- Assumes nothing.
 use Rattle.expression.specs.LeafLaws.{escape_none, escape_half, escape_read}
-use borrow.Author.Rules.{rules}
 use Prim.Native.Nat.{ℕ}
 use mathlib.Core.Path.{◌≡◌, ap, ◌∙◌}
 use Rattle.typed.specs.Spells.{hex}

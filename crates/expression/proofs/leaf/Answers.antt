@@ -3,7 +3,6 @@
 use native.Mathlib.Omega.{arith}
 use mathlib.Core.Path.{sym, ◌∙◌}
 use Rattle.expression.specs.LeafLaws.{there, leaf_escape, leaf_name, leaf_dot, leaf_bare, leaf_wrong}
-use borrow.Author.Rules.{rules}
 use Rattle.expression.proofs.leaf.Goals as goal
 
 pub escape-requires : goal.escape-requires

@@ -2,15 +2,11 @@
 -- Assumes nothing.
 use mathlib.Core.Bool.{not}
 use mathlib.Core.Path.{ap}
-use borrow.Author.Rules.{rules}
 use native.Mathlib.Omega.{arith}
 use mathlib.Core.Path.{refl, sym, ◌∙◌}
-use Prim.Native.Nat.{◌-◌}
-use lib.ListN.{length}
-use Rattle.expression.specs.declared.Read.TheVariants.{At}
 use borrow.Author.Tests.{not-true, not-false}
 use Rattle.names.specs.ByteLaws.{byte_inside}
-use Rattle.expression.specs.PartLaws.{MarksSoFar, marks_wrong, marks_as, marks_first, marks_more, marks_done, marks_end}
+use Rattle.expression.specs.PartLaws.{marks_wrong, marks_as, marks_first, marks_more, marks_done, marks_end}
 use Rattle.expression.proofs.marks.Goals as goal
 
 pub returns-in_default : goal.returns-in_default

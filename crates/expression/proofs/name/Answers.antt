@@ -1,11 +1,11 @@
 -- `expression::name` meets its contract: the bytes so far begin a name, and no cell has changed.
 -- Assumes nothing.
 use native.Mathlib.Omega.{arith}
-use mathlib.Core.Path.{◌≡◌, refl, ap, ◌∙◌}
-use Prim.Native.Nat.{ℕ, ◌-◌}
+use mathlib.Core.Path.{refl, ap, ◌∙◌}
+use Prim.Native.Nat.{ℕ}
 use mathlib.Core.List.{List}
 use lib.ListN.{length}
-use Rattle.expression.specs.LeafLaws.{Naming, naming_none, naming_more, name_read, name_unknown, name_ends, name_from}
+use Rattle.expression.specs.LeafLaws.{naming_none, naming_more, name_read, name_unknown, name_ends, name_from}
 use Rattle.expression.proofs.name.Goals as goal
 
 pub loop-to-init : goal.loop-to-init

@@ -1,11 +1,9 @@
 -- `expression::name` meets its contract: the bytes so far begin a name, and no cell has changed.
 -- Assumes nothing.
-use native.Mathlib.Omega.{arith}
-use mathlib.Core.Path.{◌≡◌, refl, ap, ◌∙◌}
-use Prim.Native.Nat.{ℕ, ◌-◌}
-use mathlib.Core.List.{List}
+use mathlib.Core.Path.{◌≡◌}
+use Prim.Native.Nat.{◌-◌}
 use lib.ListN.{length}
-use Rattle.expression.specs.LeafLaws.{Naming, naming_none, naming_more, name_read, name_unknown, name_ends, name_from}
+use Rattle.expression.specs.LeafLaws.{Naming}
 use Rattle.expression.proofs.name.Given as goal
 
 abbrev pub invariant-loop-to : goal.invariant-loop-to

@@ -2,7 +2,6 @@
 -- Assumes nothing.
 use native.Mathlib.Omega.{arith}
 use Rattle.expression.specs.PartLaws.{shut_wrong, closed_there, shut_there, shut_missing}
-use borrow.Author.Rules.{rules}
 use Rattle.expression.proofs.shut.Goals as goal
 
 pub returns-in_default : goal.returns-in_default

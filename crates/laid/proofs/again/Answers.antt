@@ -1,9 +1,7 @@
 -- `laid::again` meets its contract: the loop has redone the nodes up to i.
 -- Assumes nothing.
-use Prim.Native.Nat.{◌-◌}
 use native.Mathlib.Omega.{arith}
-use borrow.Author.Rules.{rules}
-use Rattle.laid.specs.LaidLaws.{Redone, redone_none, redone_more, redone_all, again_over}
+use Rattle.laid.specs.LaidLaws.{redone_none, redone_more, redone_all, again_over}
 use Rattle.laid.proofs.again.Goals as goal
 
 pub loop-i-init : goal.loop-i-init

@@ -1,9 +1,7 @@
 -- `laid::again` meets its contract: the loop has redone the nodes up to i.
 -- Assumes nothing.
 use Prim.Native.Nat.{◌-◌}
-use native.Mathlib.Omega.{arith}
-use borrow.Author.Rules.{rules}
-use Rattle.laid.specs.LaidLaws.{Redone, redone_none, redone_more, redone_all, again_over}
+use Rattle.laid.specs.LaidLaws.{Redone}
 use Rattle.laid.proofs.again.Given as goal
 
 abbrev pub invariant-loop-i : goal.invariant-loop-i

@@ -1,6 +1,5 @@
 -- `laid::lay` meets its contract: a cell with room is stored, one without is only counted.
 -- Assumes nothing.
-use borrow.Author.Rules.{rules}
 use Rattle.laid.specs.LaidLaws.{adds_room, adds_over}
 use Rattle.laid.proofs.lay.Goals as goal
 

@@ -1,7 +1,6 @@
 -- `laid::lay_range` meets its contract.
 -- Assumes nothing.
 use Rattle.laid.specs.TableLaws.{range_first, range_next}
-use borrow.Author.Rules.{rules}
 use Rattle.laid.proofs.lay_range.Goals as goal
 
 pub returns-then-joined : goal.returns-then-joined

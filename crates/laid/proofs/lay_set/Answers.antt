@@ -2,9 +2,7 @@
 -- Assumes nothing.
 use mathlib.Core.Path.{refl}
 use native.Mathlib.Omega.{arith}
-use Prim.Native.Nat.{◌-◌, ◌≤◌}
-use Rattle.laid.specs.Laid.{Adds}
-use Rattle.laid.specs.TableLaws.{nodes_of, some, set_start, set_none, set_more, set_all}
+use Rattle.laid.specs.TableLaws.{set_start, set_none, set_more, set_all}
 use Rattle.laid.proofs.lay_set.Goals as goal
 
 pub start_of-from-requires : goal.start_of-from-requires

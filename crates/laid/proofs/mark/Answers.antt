@@ -1,7 +1,6 @@
 -- `laid::mark` meets its contract: one law of marking a return.
 -- Assumes nothing.
 use Rattle.laid.specs.LaidLaws.{marked_star, marked_plus, marked_maybe}
-use borrow.Author.Rules.{rules}
 use Rattle.laid.proofs.mark.Goals as goal
 
 pub returns-then-c-eq42 : goal.returns-then-c-eq42

@@ -1,7 +1,6 @@
 -- `names::begins_atom` meets its contract: one law a return.
 -- Assumes nothing.
 use Rattle.names.specs.ByteLaws.{starting_1, starting_2, starting_3, starting_4, starting_5}
-use borrow.Author.Rules.{rules}
 use Rattle.names.proofs.begins_atom.Goals as goal
 
 pub returns-then-c-eq40 : goal.returns-then-c-eq40

@@ -1,7 +1,6 @@
 -- `names::byte_at` meets its contract: what stands there, or the newline past the end.
 -- Assumes nothing.
 use Rattle.names.specs.ByteLaws.{byte_inside, byte_past}
-use borrow.Author.Rules.{rules}
 use Rattle.names.proofs.byte_at.Goals as goal
 
 pub returns-then-at-text : goal.returns-then-at-text

@@ -2,7 +2,6 @@
 -- Assumes nothing.
 use native.Mathlib.Omega.{arith}
 use Rattle.names.specs.ByteLaws.{digit_1, digit_2, digit_3}
-use borrow.Author.Rules.{rules}
 use Rattle.names.proofs.digit_of.Goals as goal
 
 pub returns-then-c-lt48 : goal.returns-then-c-lt48

@@ -2,7 +2,6 @@
 -- Assumes nothing.
 use native.Mathlib.Omega.{arith}
 use Rattle.names.specs.ByteLaws.{hex_1, hex_2, hex_3, hex_4, hex_5, hex_6, hex_7}
-use borrow.Author.Rules.{rules}
 use Rattle.names.proofs.hex_of.Goals as goal
 
 pub returns-then-c-lt48 : goal.returns-then-c-lt48

@@ -1,13 +1,7 @@
 -- `names::known` meets its contract: what the sets from k on say of the part is what all say.
 -- Assumes nothing.
-use borrow.Author.Rules.{rules}
 use native.Mathlib.Omega.{arith}
-use mathlib.Core.Path.{◌≡◌, refl}
-use lib.ListN.{drop}
-use Prim.Native.Nat.{◌-◌, ◌≤◌}
-use Rattle.typed.specs.Reader.{known as known_of}
-use Rattle.typed.specs.Sets.{sets}
-use lib.Seq.{slice}
+use mathlib.Core.Path.{refl}
 use Rattle.names.specs.NameLaws.{known_hit, known_begun, known_miss, known_none}
 use Rattle.names.proofs.known.Goals as goal
 

@@ -1,12 +1,10 @@
 -- `names::match_name` meets its contract: the bytes up to i are the name's.
 -- Assumes nothing.
-use borrow.Author.Rules.{rules}
-use native.Mathlib.Omega.{arith}
 use Prim.Native.Nat.{◌-◌, ◌≤◌}
 use Rattle.typed.specs.Sets.{named}
 use Rattle.laid.specs.Tables.{set_at}
 use lib.Seq.{slice}
-use Rattle.names.specs.NameLaws.{Agree, match_longer, match_differs, so_far_more, match_begun, match_whole}
+use Rattle.names.specs.NameLaws.{Agree}
 use Rattle.names.proofs.match_name.Given as goal
 
 abbrev pub invariant-loop-i : goal.invariant-loop-i

@@ -1,10 +1,7 @@
 -- `phrases::find_spot` meets its contract: line and start are those of place i.
 -- Assumes nothing.
 use native.Mathlib.Omega.{arith}
-use mathlib.Core.Logic.{inl, inr}
-use Prim.Native.Nat.{◌-◌, ◌≤◌}
-use lib.ListN.{length}
-use Rattle.phrases.specs.SpotLaws.{SpotSoFar, spot_first, spot_newline, spot_other, spot_as, spot_last}
+use Rattle.phrases.specs.SpotLaws.{spot_first, spot_newline, spot_other, spot_as, spot_last}
 use Rattle.phrases.proofs.find_spot.Goals as goal
 
 pub loop-i-init : goal.loop-i-init
@@ -29,8 +26,8 @@ pub loop-i-preserved : goal.loop-i-preserved
 loop-i-preserved c = (
   omega arith,
   elim c.if-before-i-eq-NEWLINE.branch [
-    | inl m ↦ spot_as _ _ m.1 m.2 (spot_newline _ _ _ _ c.loop-i-test.true m.0.taken c.loop-i.invariant.1)
-    | inr m ↦ spot_as _ _ m.1 m.2 (spot_other _ _ _ _ c.loop-i-test.true m.0.left c.loop-i.invariant.1)
+    | goal.then-before-i-eq-NEWLINE w ↦ spot_as _ _ w.line-is w.start-is (spot_newline _ _ _ _ c.loop-i-test.true w.if-before-i-eq-NEWLINE.true c.loop-i.invariant.1)
+    | goal.else-before-i-eq-NEWLINE w ↦ spot_as _ _ w.line-is w.start-is (spot_other _ _ _ _ c.loop-i-test.true w.if-before-i-eq-NEWLINE.false c.loop-i.invariant.1)
   ],
 )
 

@@ -1,10 +1,8 @@
 -- `phrases::find_spot` meets its contract: line and start are those of place i.
 -- Assumes nothing.
-use native.Mathlib.Omega.{arith}
-use mathlib.Core.Logic.{inl, inr}
 use Prim.Native.Nat.{◌-◌, ◌≤◌}
 use lib.ListN.{length}
-use Rattle.phrases.specs.SpotLaws.{SpotSoFar, spot_first, spot_newline, spot_other, spot_as, spot_last}
+use Rattle.phrases.specs.SpotLaws.{SpotSoFar}
 use Rattle.phrases.proofs.find_spot.Given as goal
 
 abbrev pub invariant-loop-i : goal.invariant-loop-i

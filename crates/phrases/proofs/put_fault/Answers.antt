@@ -3,7 +3,6 @@
 use mathlib.Core.Path.{refl}
 use Rattle.number.specs.Quoted.{quoted}
 use Rattle.phrases.specs.WriteLaws.{writes_as, room_as, fault_end, fault_byte}
-use borrow.Author.Rules.{rules}
 use Rattle.phrases.proofs.put_fault.Goals as goal
 
 pub put_text-requires : goal.put_text-requires

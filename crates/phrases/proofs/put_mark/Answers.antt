@@ -1,9 +1,7 @@
 -- `phrases::put_mark` meets its contract: the spaces from i on are left, and the mark.
 -- Assumes nothing.
 use native.Mathlib.Omega.{arith}
-use Prim.Native.Nat.{◌-◌}
-use Rattle.advised.specs.Advice.{mark_line}
-use Rattle.phrases.specs.Left.{Left, left_byte, left_some, left_last}
+use Rattle.phrases.specs.Left.{left_byte, left_some, left_last}
 use Rattle.phrases.specs.WriteLaws.{mark_all, mark_some, mark_more, mark_last}
 use Rattle.phrases.proofs.put_mark.Goals as goal
 

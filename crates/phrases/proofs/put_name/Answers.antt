@@ -1,6 +1,5 @@
 -- `phrases::put_name` meets its contract: one law a way.
 -- Assumes nothing.
-use borrow.Author.Rules.{rules}
 use native.Mathlib.Omega.{arith}
 use mathlib.Core.Path.{refl}
 use Rattle.number.specs.Quoted.{quoted}

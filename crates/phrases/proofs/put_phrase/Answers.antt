@@ -3,7 +3,6 @@
 use Rattle.lines.specs.Digits.{decimal}
 use Rattle.phrases.specs.Left.{left_room, left_step, left_last}
 use Rattle.phrases.specs.WriteLaws.{phrase_all}
-use borrow.Author.Rules.{rules}
 use Rattle.phrases.proofs.put_phrase.Goals as goal
 
 pub put_text-number-requires : goal.put_text-number-requires

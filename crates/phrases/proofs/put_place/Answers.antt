@@ -4,7 +4,6 @@ use Rattle.number.specs.Quoted.{quoted}
 use Rattle.advised.specs.Advice.{phrase}
 use Rattle.phrases.specs.Left.{left_room, left_step, left_last}
 use Rattle.phrases.specs.WriteLaws.{place_all}
-use borrow.Author.Rules.{rules}
 use Rattle.phrases.proofs.put_place.Goals as goal
 
 pub put_phrase-behind-requires : goal.put_phrase-behind-requires

@@ -1,12 +1,9 @@
 -- `phrases::put_shown` meets its contract: the line's bytes from i on are left.
 -- Assumes nothing.
-use borrow.Author.Rules.{rules}
-use native.Mathlib.Omega.{arith}
 use Prim.Native.Nat.{◌-◌}
 use lib.ListN.{length, drop}
 use Rattle.advised.specs.Advice.{shown_line}
-use Rattle.phrases.specs.Left.{Left, left_all}
-use Rattle.phrases.specs.WriteLaws.{shown_some, shown_more, shown_to_newline, shown_to_end}
+use Rattle.phrases.specs.Left.{Left}
 use Rattle.phrases.proofs.put_shown.Given as goal
 
 abbrev pub invariant-loop-i : goal.invariant-loop-i

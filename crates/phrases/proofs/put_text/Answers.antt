@@ -1,9 +1,7 @@
 -- `phrases::put_text` meets its contract: the bytes from i on are left.
 -- Assumes nothing.
 use native.Mathlib.Omega.{arith}
-use Prim.Native.Nat.{◌-◌, ◌≤◌}
-use lib.ListN.{length, drop}
-use Rattle.phrases.specs.Left.{Left, left_all}
+use Rattle.phrases.specs.Left.{left_all}
 use Rattle.phrases.specs.WriteLaws.{text_some, text_more, text_end}
 use Rattle.phrases.proofs.put_text.Goals as goal
 

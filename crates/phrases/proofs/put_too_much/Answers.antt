@@ -5,7 +5,6 @@ use Rattle.number.specs.Quoted.{quoted}
 use Rattle.advised.specs.Advice.{over_rules, over_kinds, over_nodes, in_all}
 use Rattle.phrases.specs.Left.{left_room, left_step, left_last}
 use Rattle.phrases.specs.WriteLaws.{too_much_lem}
-use borrow.Author.Rules.{rules}
 use Rattle.phrases.proofs.put_too_much.Goals as goal
 
 pub put_phrase-kind-requires : goal.put_phrase-kind-requires

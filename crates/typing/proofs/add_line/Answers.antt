@@ -5,7 +5,6 @@ use mathlib.Core.Path.{refl, sym, ◌∙◌}
 use Rattle.laid.specs.ByteLaws.{width_most}
 use Rattle.typed.specs.CallLaws.{in_of}
 use Rattle.typing.specs.SumLaws.{add_faulty, add_out, add_in}
-use borrow.Author.Rules.{rules}
 use Rattle.typing.proofs.add_line.Goals as goal
 
 pub returns-then-sum : goal.returns-then-sum

@@ -2,7 +2,6 @@
 -- Assumes nothing.
 use native.Mathlib.Omega.{arith}
 use Rattle.typing.specs.PassLaws.{colon_there, colon_read, colon_missing}
-use borrow.Author.Rules.{rules}
 use Rattle.typing.proofs.colon.Goals as goal
 
 pub overflow_add-result : goal.overflow_add-result

@@ -1,8 +1,7 @@
 -- `typing::copy` meets its contract: the bytes up to i are copied.
 -- Assumes nothing.
-use native.Mathlib.Omega.{arith}
 use Prim.Native.Nat.{◌-◌}
-use Rattle.typing.specs.SumLaws.{CopySoFar, copy_first, copy_next, copy_all}
+use Rattle.typing.specs.SumLaws.{CopySoFar}
 use Rattle.typing.proofs.copy.Given as goal
 
 abbrev pub invariant-loop-i : goal.invariant-loop-i

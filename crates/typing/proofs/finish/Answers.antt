@@ -4,7 +4,6 @@ use native.Mathlib.Omega.{arith}
 use Rattle.number.specs.Limits.{first_version}
 use Rattle.laid.specs.ByteLaws.{width_most}
 use Rattle.typing.specs.SumLaws.{finish_out, finish_none, finish_book}
-use borrow.Author.Rules.{rules}
 use Rattle.typing.proofs.finish.Goals as goal
 
 pub returns-then-sum : goal.returns-then-sum

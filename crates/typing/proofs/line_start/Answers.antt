@@ -2,8 +2,7 @@
 -- Assumes nothing.
 use native.Mathlib.Omega.{arith}
 use Prim.Native.Nat.{◌-◌}
-use lib.ListN.{length}
-use Rattle.typing.specs.SumLaws.{StartSoFar, start_first, start_found, start_next, start_ends}
+use Rattle.typing.specs.SumLaws.{start_first, start_found, start_next, start_ends}
 use Rattle.typing.proofs.line_start.Goals as goal
 
 pub loop-p-init : goal.loop-p-init

@@ -1,9 +1,8 @@
 -- `typing::line_start` meets its contract: the newlines before p are counted.
 -- Assumes nothing.
-use native.Mathlib.Omega.{arith}
 use Prim.Native.Nat.{◌-◌}
 use lib.ListN.{length}
-use Rattle.typing.specs.SumLaws.{StartSoFar, start_first, start_found, start_next, start_ends}
+use Rattle.typing.specs.SumLaws.{StartSoFar}
 use Rattle.typing.proofs.line_start.Given as goal
 
 abbrev pub invariant-loop-p : goal.invariant-loop-p

@@ -3,7 +3,6 @@
 use native.Mathlib.Omega.{arith}
 use mathlib.Core.Path.{refl}
 use Rattle.typing.specs.Sums.LeftAfter.{newline, no_newline}
-use borrow.Author.Rules.{rules}
 use Rattle.typing.proofs.lines_left.Goals as goal
 
 pub returns-then-c-eq-NEWLINE : goal.returns-then-c-eq-NEWLINE

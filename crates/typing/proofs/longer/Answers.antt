@@ -1,7 +1,6 @@
 -- `typing::longer` meets its contract: within the limit, and past it.
 -- Assumes nothing.
 use Rattle.typing.specs.PassLaws.{longer_within, longer_past}
-use borrow.Author.Rules.{rules}
 use Rattle.typing.proofs.longer.Goals as goal
 
 pub returns-then-n-gt-KINDS : goal.returns-then-n-gt-KINDS

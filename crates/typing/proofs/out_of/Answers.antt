@@ -2,7 +2,6 @@
 -- Assumes nothing.
 use mathlib.Core.Path.{refl}
 use Rattle.typing.specs.SumLaws.{out_rules, out_kind, out_nodes}
-use borrow.Author.Rules.{rules}
 use Rattle.typing.proofs.out_of.Goals as goal
 
 pub returns-then-done-ge-RULES : goal.returns-then-done-ge-RULES

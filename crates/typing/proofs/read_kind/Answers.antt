@@ -1,11 +1,8 @@
 -- `typing::read_kind` meets its contract: the digits up to p are read.
 -- Assumes nothing.
-use borrow.Author.Rules.{rules}
 use native.Mathlib.Omega.{arith}
-use Prim.Native.Nat.{◌-◌}
-use lib.ListN.{length}
 use Rattle.names.specs.ByteLaws.{byte_inside}
-use Rattle.typing.specs.PassLaws.{KindSoFar, so_far_small, kind_none, kind_zero, kind_first, kind_more, kind_stops, kind_ends}
+use Rattle.typing.specs.PassLaws.{so_far_small, kind_none, kind_zero, kind_first, kind_more, kind_stops, kind_ends}
 use Rattle.typing.proofs.read_kind.Goals as goal
 
 pub bounds-text-at : goal.bounds-text-at

@@ -5,7 +5,6 @@ use mathlib.Core.Path.{sym, ◌∙◌}
 use Rattle.names.specs.ByteLaws.{byte_inside}
 use Rattle.expression.specs.PartLaws.{choice_as}
 use Rattle.typing.specs.PassLaws.{kind_as, line_kind_wrong, from_inside, line_body_wrong, line_whole, line_open}
-use borrow.Author.Rules.{rules}
 use Rattle.typing.proofs.read_line.Goals as goal
 
 pub read_kind-requires : goal.read_kind-requires

@@ -1,7 +1,6 @@
 -- `typing::type_in` meets its contract: what was read decides; the law of each answer.
 -- Assumes nothing.
 use Rattle.typing.specs.SumLaws.{rules_as, all_roomy, given_wrong, given_all}
-use borrow.Author.Rules.{rules}
 use Rattle.typing.proofs.type_in.Goals as goal
 
 pub read_rules-requires : goal.read_rules-requires

@@ -1,7 +1,6 @@
 -- `typing::type_rules` meets its contract: too small an area is refused; else it is as with memory of its own.
 -- Assumes nothing.
 use Rattle.typing.specs.SumLaws.{types_room, types_given}
-use borrow.Author.Rules.{rules}
 use Rattle.typing.proofs.type_rules.Goals as goal
 
 pub returns-then-out-lt-TYPED_AREA : goal.returns-then-out-lt-TYPED_AREA

@@ -3,7 +3,7 @@
 use Prim.Native.Nat.{◌-◌}
 use native.Mathlib.Omega.{arith}
 use mathlib.Core.Path.{◌≡◌, refl}
-use borrow.Author.Rules.{rules}
+use borrow.Author.Rules.{rules as steps}
 use lib.ListN.{length, length-replicate, get_or-replicate, replicate}
 use Rattle.number.specs.Limits.{rules}
 use Rattle.meaning.specs.Tests.{clash}
@@ -39,7 +39,7 @@ put_term-placed-requires c =
 
 pub loop-i-preserved : goal.loop-i-preserved
 loop-i-preserved c = (
-  search rules,
+  search steps,
   place_more c.requires c.loop-i.invariant.1 (omega arith) (got c.derive.ensures c.in-Term.is)
       c.put_term-placed.ensures,
 )

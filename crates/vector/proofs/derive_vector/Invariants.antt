@@ -3,7 +3,6 @@
 use Prim.Native.Nat.{◌-◌}
 use native.Mathlib.Omega.{arith}
 use mathlib.Core.Path.{◌≡◌, refl}
-use borrow.Author.Rules.{rules}
 use lib.ListN.{length, length-replicate, get_or-replicate, replicate}
 use Rattle.number.specs.Limits.{rules}
 use Rattle.meaning.specs.Tests.{clash}

@@ -3,8 +3,6 @@
 use Prim.Native.Nat.{◌≤◌, ◌-◌}
 use native.Mathlib.Omega.{arith}
 use mathlib.Core.Path.{◌≡◌}
-use mathlib.Core.Logic.{⊎_elim}
-use borrow.Author.Rules.{rules}
 use lib.ListN.{length}
 use Rattle.number.specs.Limits.{rules}
 use Rattle.vector.specs.PlaceLaws.{Least, least_first, least_new, least_old, least_last}

@@ -3,7 +3,6 @@
 use Prim.Native.Nat.{◌+◌, ◌-◌, ◌≤◌}
 use mathlib.Core.Path.{◌≡◌}
 use native.Mathlib.Omega.{arith}
-use borrow.Author.Rules.{rules}
 use lib.ListN.{length}
 use Rattle.number.specs.Limits.{rules}
 use Rattle.vector.specs.PlaceLaws.{LabelLeft, label_first, label_found, label_next, label_none}

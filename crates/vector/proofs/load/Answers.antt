@@ -3,7 +3,7 @@
 use Prim.Native.Nat.{◌+◌, ◌*◌, ◌-◌, ◌≤◌}
 use mathlib.Core.Path.{◌≡◌, sym, ◌∙◌}
 use native.Mathlib.Omega.{arith}
-use borrow.Author.Rules.{rules}
+use borrow.Author.Rules.{rules as steps}
 use lib.ListN.{length, take, drop}
 use lib.Seq.{take_all}
 use Rattle.number.specs.Limits.{rules}
@@ -13,8 +13,8 @@ use Rattle.vector.proofs.load.Goals as goal
 
 pub loop-i-preserved : goal.loop-i-preserved
 loop-i-preserved c = (
-  search rules,
-  search rules,
+  search steps,
+  search steps,
   copied_more c.loop-i.to c.args.cells.now (vectors_at + c.args.k * rules) c.loop-i.i (omega arith) (omega arith) c.loop-i.invariant.2,
 )
 

@@ -3,7 +3,7 @@
 use Prim.Native.Nat.{ℕ, ◌-◌, ◌≤◌, ◌<◌}
 use mathlib.Core.Path.{◌≡◌, refl, ap}
 use native.Mathlib.Omega.{arith}
-use borrow.Author.Rules.{rules}
+use borrow.Author.Rules.{rules as steps}
 use mathlib.Core.List.{List}
 use borrow.Author.Count.{below_more}
 use lib.ListN.{length, get_or}
@@ -20,7 +20,7 @@ returns-then-x-place c =
     }
 
 pub loop-place-preserved : goal.loop-place-preserved
-loop-place-preserved c = (search rules, search rules, search rules, below_more _ _ c.loop-place.invariant.3 c.if-x-place.false)
+loop-place-preserved c = (search steps, search steps, search steps, below_more _ _ c.loop-place.invariant.3 c.if-x-place.false)
 
 pub returns : goal.returns
 returns c =

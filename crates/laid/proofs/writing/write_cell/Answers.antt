@@ -3,7 +3,6 @@
 use native.Mathlib.Omega.{arith}
 use Prim.Native.Nat.{◌/◌, ◌%◌}
 use Rattle.laid.specs.ByteLaws.{width_most, code_width, cell_plain, cell_range}
-use borrow.Author.Rules.{rules}
 use Rattle.laid.proofs.writing.write_cell.Goals as goal
 
 pub write_number-first-requires : goal.write_number-first-requires

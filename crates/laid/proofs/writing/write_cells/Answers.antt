@@ -1,9 +1,7 @@
 -- `laid::write_cells` meets its contract: the cells up to i are written.
 -- Assumes nothing.
-use borrow.Author.Rules.{rules}
 use native.Mathlib.Omega.{arith}
-use Prim.Native.Nat.{◌-◌}
-use Rattle.laid.specs.ByteLaws.{CellsSoFar, cells_first, cells_on, cells_all}
+use Rattle.laid.specs.ByteLaws.{cells_first, cells_on, cells_all}
 use Rattle.laid.proofs.writing.write_cells.Goals as goal
 
 pub loop-i-init : goal.loop-i-init
