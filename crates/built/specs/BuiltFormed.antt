@@ -13,7 +13,6 @@ use Rattle.table.specs.Table.{Table}
 use Rattle.table.specs.Formed.{Formed}
 use Rattle.walk.specs.Walk.{Item, Held}
 use Rattle.walk.specs.StepLaws.{item, count}
-use Rattle.walk.specs.WalkLaws.{target}
 use Rattle.walk.specs.Explored.{Explored, walk_explores}
 use Rattle.built.specs.Build.{alone, table_of, build_rules}
 use Rattle.built.specs.BuildLaws.{built, label_item}

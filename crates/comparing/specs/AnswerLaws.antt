@@ -18,7 +18,7 @@ use Rattle.book.specs.PlaceLaws.{checked_counts, checked_refused}
 use Rattle.table.specs.Table.{Table, lent, well_formed}
 use Rattle.table.specs.Formed.{Formed}
 use Rattle.table.specs.SheetFormed.{well_formed_lem}
-use Rattle.walk.specs.Walk.{rows, walk_from}
+use Rattle.walk.specs.Walk.{walk_from}
 use Rattle.walk.specs.Walk.Walked.{halted}
 use Rattle.vector.specs.Layout.{work_length}
 use Rattle.steps.specs.declared.Stepped.{Stepped}

@@ -8,7 +8,6 @@ use Rattle.walk.specs.Walk.{Held, Step, Way, step}
 use Rattle.walk.specs.Walk.Step.{stopped}
 use Rattle.walk.specs.StepLaws.{item}
 use Rattle.pool.specs.Index.{Indexed}
-use Rattle.vector.specs.Layout.{items}
 use Rattle.vector.specs.Memory.{numbers_at, Kept}
 use Rattle.vector.specs.Promises.{Reads, ReadsShort}
 use Rattle.vector.specs.MemoryLaws.{reads}

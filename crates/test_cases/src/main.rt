@@ -8,7 +8,6 @@ ghost use Rattle.table.specs.Formed.{longest_sheet};
 ghost use Rattle.vector.specs.Layout.{work_length};
 
 use cutting::{Ended, RECORD_CELLS};
-use libc::STDOUT_FILENO;
 use lines::LINE_ROOM;
 use number::Refusal;
 use number::limits::{BOOK_FILE, SHOWN_TEXT, STATES, TABLE_CELLS};
@@ -44,198 +43,185 @@ fn work_room() -> [u64; WORK_LENGTH]
 }
 
 // A file of a case, as c000.book, into a buffer; the bytes that were read.
-fn read_case(name: &[u8], buffer: &mut [u8]) -> usize
+fn read_case(rt: &HostRuntime, name: &[u8], buffer: &mut [u8]) -> usize
     ensures { result ≤ length buffer.new }
 {
-    let fd = os::open_read(name);
-    if fd < 0 {
-        return 0;
+    match files::open(rt, name) {
+        Ok(file) => files::read_all(Ok(file), buffer),
+        Err(_) => 0,
     }
-    let n = io::read_full(fd, buffer);
-    libc::close(fd);
-    n
 }
 
-fn is_stored(name: &[u8]) -> bool {
-    let fd = os::open_read(name);
-    if fd < 0 {
-        return false;
-    }
-    libc::close(fd);
-    true
+fn is_stored(rt: &HostRuntime, name: &[u8]) -> bool {
+    files::open(rt, name).is_ok()
 }
 
 fn digit(n: usize) -> u8 {
     (48 + n % 10) as u8
 }
 
-fn say(text: &[u8]) {
-    io::write_all(STDOUT_FILENO, text);
+fn say(rt: &HostRuntime, text: &[u8]) {
+    files::print(rt, text);
 }
 
-fn say_refused(r: Refusal) {
+fn say_refused(rt: &HostRuntime, r: Refusal) {
     let mut out = [0u8; LINE_ROOM];
     let end = lines::put_refused(r, &mut out, 0);
-    say(&out[0..end]);
+    say(rt, &out[0..end]);
 }
 
-fn say_number(n: usize) {
-    io::print_decimal(STDOUT_FILENO, n as u64);
+fn say_number(rt: &HostRuntime, n: usize) {
+    let _ = print!(rt; "{n}");
 }
 
-fn say_word(start: usize, length: usize, rule: usize) {
-    say_number(start);
-    say(b" ");
-    say_number(length);
-    say(b" ");
-    say_number(rule);
-    say(b"\n");
+fn say_word(rt: &HostRuntime, start: usize, length: usize, rule: usize) {
+    say_number(rt, start);
+    say(rt, b" ");
+    say_number(rt, length);
+    say(rt, b" ");
+    say_number(rt, rule);
+    say(rt, b"\n");
 }
 
 // The words that were put into the records, a line each.
-fn say_words(records: &[usize; WORDS * RECORD_CELLS], n: usize) {
-    let mut k: usize = 0;
-    while k < WORDS {
+fn say_words(rt: &HostRuntime, records: &[usize; WORDS * RECORD_CELLS], n: usize) {
+    for k in 0..WORDS {
         if k < n {
             let at = k * RECORD_CELLS;
-            say_word(records[at], records[at + 1], records[at + 2]);
+            say_word(rt, records[at], records[at + 1], records[at + 2]);
         }
-        k += 1;
     }
 }
 
-fn say_end(how: &[u8], n: usize, at: usize) {
-    say(how);
-    say_number(n);
-    say(b" ");
-    say_number(at);
-    say(b"\n");
+fn say_end(rt: &HostRuntime, how: &[u8], n: usize, at: usize) {
+    say(rt, how);
+    say_number(rt, n);
+    say(rt, b" ");
+    say_number(rt, at);
+    say(rt, b"\n");
 }
 
 // A text by a table, as far as the records go.
-fn cut_case<'a>(count: usize, labels: &'a [u8], targets: &'a [u8], name: &[u8]) {
+fn cut_case<'a>(rt: &HostRuntime, count: usize, labels: &'a [u8], targets: &'a [u8], name: &[u8]) {
     let mut text = [0u8; TEXT];
     let mut records = [0usize; WORDS * RECORD_CELLS];
-    let length = read_case(name, &mut text);
+    let length = read_case(rt, name, &mut text);
     match cutting::cut_from(count, labels, targets, &text[0..length], 0, &mut records) {
         Ended::Done(n) => {
-            say_words(&records, n);
-            say(b"done ");
-            say_number(n);
-            say(b"\n");
+            say_words(rt, &records, n);
+            say(rt, b"done ");
+            say_number(rt, n);
+            say(rt, b"\n");
         }
         Ended::Stuck(n, at) => {
-            say_words(&records, n);
-            say_end(b"stuck ", n, at);
+            say_words(rt, &records, n);
+            say_end(rt, b"stuck ", n, at);
         }
         Ended::Full(n, at) => {
-            say_words(&records, n);
-            say_end(b"full ", n, at);
+            say_words(rt, &records, n);
+            say_end(rt, b"full ", n, at);
         }
-        Ended::Refused(r) => say_refused(r),
+        Ended::Refused(r) => say_refused(rt, r),
     }
 }
 
 // A table's states and the length of its sheet.
-fn say_table<'a>(count: usize, labels: &'a [u8], targets: &'a [u8]) {
+fn say_table<'a>(rt: &HostRuntime, count: usize, labels: &'a [u8], targets: &'a [u8]) {
     let mut sheet = sheet_room();
-    say_number(count);
-    say(b" states, ");
+    say_number(rt, count);
+    say(rt, b" states, ");
     match writing::write_sheet(count, labels, targets, &mut sheet) {
         Written::Bytes(n) => {
-            say_number(n);
-            say(b" bytes\n");
+            say_number(rt, n);
+            say(rt, b" bytes\n");
         }
-        Written::Unwritten(r) => say_refused(r),
+        Written::Unwritten(r) => say_refused(rt, r),
     }
 }
 
 // The build of a book: its table and the cut by it, or why there is none.
-fn build_case(book_name: &[u8], text_name: &[u8]) {
+fn build_case(rt: &HostRuntime, book_name: &[u8], text_name: &[u8]) {
     let mut book = [0u8; BOOK_FILE];
     let mut labels = [0u8; STATES];
     let mut targets = targets_room();
     let mut work = work_room();
-    let n = read_case(book_name, &mut book);
+    let n = read_case(rt, book_name, &mut book);
     match building::build(&book[0..n], &mut labels, &mut targets, &mut work) {
         Counted::States(count) => {
-            say_table(count, &labels, &targets);
-            cut_case(count, &labels, &targets, text_name);
+            say_table(rt, count, &labels, &targets);
+            cut_case(rt, count, &labels, &targets, text_name);
         }
-        Counted::Refused(r) => say_refused(r),
+        Counted::Refused(r) => say_refused(rt, r),
     }
+}
+
+fn say_byte(rt: &HostRuntime, byte: u8) {
+    let _ = print!(rt; "{byte:02x}");
 }
 
 // A text in hex, on a line of its own.
-fn say_hex(text: &[u8]) {
-    let mut i = 0;
-    while i < text.len() {
-        let byte = text[i];
-        io::print_hex(STDOUT_FILENO, wide(byte), 2);
-        i += 1;
+fn say_hex(rt: &HostRuntime, text: &[u8]) {
+    for byte in text {
+        say_byte(rt, *byte);
     }
-    say(b"\n");
+    say(rt, b"\n");
 }
 
-fn wide(b: u8) -> u64 {
-    b as u64
-}
-
-fn say_compared(answer: Compared, text: &[u8]) {
+fn say_compared(rt: &HostRuntime, answer: Compared, text: &[u8]) {
     match answer {
-        Compared::Same => say(b"same\n"),
+        Compared::Same => say(rt, b"same\n"),
         Compared::Differs(len, book, sheet) => {
-            say(b"differs ");
-            say_number(len);
-            say(b" ");
-            say_number(book);
-            say(b" ");
-            say_number(sheet);
-            say(b"\n");
+            say(rt, b"differs ");
+            say_number(rt, len);
+            say(rt, b" ");
+            say_number(rt, book);
+            say(rt, b" ");
+            say_number(rt, sheet);
+            say(rt, b"\n");
             if len <= text.len() {
-                say_hex(&text[0..len]);
+                say_hex(rt, &text[0..len]);
             }
         }
-        Compared::Refused(r) => say_refused(r),
+        Compared::Refused(r) => say_refused(rt, r),
     }
 }
 
 // A loaded table written back: how long its sheet is, and whether it is the sheet that was loaded.
-fn say_back<'a>(sheet: &[u8], count: usize, labels: &'a [u8], targets: &'a [u8]) {
+fn say_back<'a>(rt: &HostRuntime, sheet: &[u8], count: usize, labels: &'a [u8], targets: &'a [u8]) {
     let mut out = sheet_room();
-    say(b"back ");
+    say(rt, b"back ");
     match writing::write_sheet(count, labels, targets, &mut out) {
         Written::Bytes(n) => {
-            say_number(n);
+            say_number(rt, n);
             if n <= out.len() {
-                say_same(sheet, &out[0..n]);
+                say_same(rt, sheet, &out[0..n]);
             }
         }
-        Written::Unwritten(r) => say_refused(r),
+        Written::Unwritten(r) => say_refused(rt, r),
     }
 }
 
-fn say_same(sheet: &[u8], out: &[u8]) {
-    if check::same(sheet, out) {
-        say(b" bytes, the same\n");
+fn say_same(rt: &HostRuntime, sheet: &[u8], out: &[u8]) {
+    if sheet == out {
+        say(rt, b" bytes, the same\n");
     } else {
-        say(b" bytes, others\n");
+        say(rt, b" bytes, others\n");
     }
 }
 
 // A book against a sheet: the sheet's faults come first, since it is loaded first; then the book's, then the walk's.
-fn compare_case(book_name: &[u8], sheet_name: &[u8]) {
+fn compare_case(rt: &HostRuntime, book_name: &[u8], sheet_name: &[u8]) {
     let mut book = [0u8; BOOK_FILE];
     let mut sheet = sheet_room();
     let mut labels = [0u8; STATES];
     let mut targets = targets_room();
     let mut text = [0u8; SHOWN_TEXT];
     let mut work = work_room();
-    let n = read_case(book_name, &mut book);
-    let m = read_case(sheet_name, &mut sheet);
+    let n = read_case(rt, book_name, &mut book);
+    let m = read_case(rt, sheet_name, &mut sheet);
     match loading::load(&sheet[0..m], &mut labels, &mut targets) {
         Counted::States(count) => {
-            say_back(&sheet[0..m], count, &labels, &targets);
+            say_back(rt, &sheet[0..m], count, &labels, &targets);
             let answer = comparing::compare_book(
                 &book[0..n],
                 count,
@@ -244,24 +230,29 @@ fn compare_case(book_name: &[u8], sheet_name: &[u8]) {
                 &mut text,
                 &mut work,
             );
-            say_compared(answer, &text);
+            say_compared(rt, answer, &text);
         }
-        Counted::Refused(r) => say_refused(r),
+        Counted::Refused(r) => say_refused(rt, r),
     }
 }
 
 // Runs a case, and answers whether there was one.
-fn run_case(k: usize) -> bool {
+fn run_case(rt: &HostRuntime, k: usize) -> bool {
     let a = digit(k / 100);
     let b = digit(k / 10);
     let c = digit(k);
     let book_name = [b'c', a, b, c, b'.', b'b', b'o', b'o', b'k'];
-    if !is_stored(&book_name) {
+    if !is_stored(rt, &book_name) {
         return false;
     }
-    say(&[a, b, c, b' ']);
-    build_case(&book_name, &[b'c', a, b, c, b'.', b't', b'e', b'x', b't']);
+    say(rt, &[a, b, c, b' ']);
+    build_case(
+        rt,
+        &book_name,
+        &[b'c', a, b, c, b'.', b't', b'e', b'x', b't'],
+    );
     compare_case(
+        rt,
         &book_name,
         &[b'c', a, b, c, b'.', b's', b'h', b'e', b'e', b't'],
     );
@@ -269,12 +260,10 @@ fn run_case(k: usize) -> bool {
 }
 
 // The first number without a book ends the run.
-fn main() {
-    let mut k: usize = 0;
-    while k < NUMBERS {
-        if !run_case(k) {
+fn main(rt: HostRuntime) {
+    for k in 0..NUMBERS {
+        if !run_case(&rt, k) {
             return;
         }
-        k += 1;
     }
 }

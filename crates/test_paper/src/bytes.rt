@@ -4,43 +4,43 @@ use crate::say;
 use book::{Checked, RuleKind};
 use number::{Grouped, Taken};
 
-fn tell_taken(got: Taken) {
+fn tell_taken(rt: &HostRuntime, got: Taken) {
     match got {
         Taken::Value(value, next) => {
-            say::counted(value, b" then ");
-            say::count(next);
+            say::counted(rt, value, b" then ");
+            say::count(rt, next);
         }
-        Taken::Refused(r) => say::refusal(r),
+        Taken::Refused(r) => say::refusal(rt, r),
     }
 }
 
-pub(crate) fn tell_number(read: Grouped) {
+pub(crate) fn tell_number(rt: &HostRuntime, read: Grouped) {
     let got = read.taken;
     let groups = read.groups;
-    tell_taken(got);
-    say::text(b", groups ");
-    say::counted(groups, b"\n");
+    tell_taken(rt, got);
+    say::text(rt, b", groups ");
+    say::counted(rt, groups, b"\n");
 }
 
-pub(crate) fn tell_field(got: Taken) {
-    tell_taken(got);
-    say::text(b"\n");
+pub(crate) fn tell_field(rt: &HostRuntime, got: Taken) {
+    tell_taken(rt, got);
+    say::text(rt, b"\n");
 }
 
-pub(crate) fn tell_book(bytes: &[u8]) {
+pub(crate) fn tell_book(rt: &HostRuntime, bytes: &[u8]) {
     match checking::check_book(bytes) {
         Checked::Counts(rules, nodes) => {
-            say::counted(rules, b" rules ");
-            say::counted(nodes, b" nodes\n");
+            say::counted(rt, rules, b" rules ");
+            say::counted(rt, nodes, b" nodes\n");
         }
-        Checked::Refused(r) => say::refused(r),
+        Checked::Refused(r) => say::refused(rt, r),
     }
 }
 
-pub(crate) fn tell_kind(bytes: &[u8], rule: usize) {
+pub(crate) fn tell_kind(rt: &HostRuntime, bytes: &[u8], rule: usize) {
     match places::rule_kind(bytes, rule) {
-        RuleKind::Kind(kind) => say::counted(kind, b"\n"),
-        RuleKind::NoRule => say::text(b"no rule\n"),
-        RuleKind::Unknown(r) => say::refused(r),
+        RuleKind::Kind(kind) => say::counted(rt, kind, b"\n"),
+        RuleKind::NoRule => say::text(rt, b"no rule\n"),
+        RuleKind::Unknown(r) => say::refused(rt, r),
     }
 }

@@ -16,38 +16,39 @@ const ROOM: usize = 2;
 // At most so many cells are printed.
 const SHOWN: usize = 6;
 
-fn cell(records: &[usize], i: usize) {
+fn cell(rt: &HostRuntime, records: &[usize], i: usize) {
     if i < records.len() {
-        say::text(b" ");
-        say::count(records[i]);
+        say::text(rt, b" ");
+        say::count(rt, records[i]);
     }
 }
 
-fn cells(records: &[usize]) {
-    say::text(b", cells");
+fn cells(rt: &HostRuntime, records: &[usize]) {
+    say::text(rt, b", cells");
     let mut i: usize = 0;
     while i < SHOWN {
-        cell(records, i);
+        cell(rt, records, i);
         i += 1;
     }
-    say::text(b"\n");
+    say::text(rt, b"\n");
 }
 
-fn tell(ended: Ended, records: &[usize]) {
+fn tell(rt: &HostRuntime, ended: Ended, records: &[usize]) {
     match ended {
         Ended::Done(count) => {
-            say::text(b"done ");
-            say::count(count);
+            say::text(rt, b"done ");
+            say::count(rt, count);
         }
-        Ended::Stuck(count, place) => say::placed(b"stuck ", count, place),
-        Ended::Full(count, place) => say::placed(b"full ", count, place),
-        Ended::Refused(r) => say::refusal(r),
+        Ended::Stuck(count, place) => say::placed(rt, b"stuck ", count, place),
+        Ended::Full(count, place) => say::placed(rt, b"full ", count, place),
+        Ended::Refused(r) => say::refusal(rt, r),
     }
-    cells(records);
+    cells(rt, records);
 }
 
 // Into so many cells.
 pub(crate) fn into_cells<'a>(
+    rt: &HostRuntime,
     count: usize,
     labels: &'a [u8],
     targets: &'a [u8],
@@ -61,14 +62,15 @@ pub(crate) fn into_cells<'a>(
     }
     let lent = &mut records[0..most];
     let ended = cutting::cut_from(count, labels, targets, text, at, lent);
-    tell(ended, lent);
+    tell(rt, ended, lent);
 }
 
 // Both records are printed, whatever was lent.
-fn tell_records(ended: Ended, words: [Word; ROOM]) {
+fn tell_records(rt: &HostRuntime, ended: Ended, words: [Word; ROOM]) {
     let first = words[0];
     let second = words[1];
     tell(
+        rt,
         ended,
         &[
             first.start,
@@ -83,6 +85,7 @@ fn tell_records(ended: Ended, words: [Word; ROOM]) {
 
 // Into the first records of a list. Structs are lent here, so the proof is by hand.
 fn cut_records<'a>(
+    rt: &HostRuntime,
     count: usize,
     labels: &'a [u8],
     targets: &'a [u8],
@@ -94,6 +97,7 @@ fn cut_records<'a>(
 {
     let mut words = [empty; ROOM];
     tell_records(
+        rt,
         cutting::cut(count, labels, targets, text, &mut words[..room]),
         words,
     );
@@ -101,6 +105,7 @@ fn cut_records<'a>(
 
 // Into so many records.
 pub(crate) fn into_records<'a>(
+    rt: &HostRuntime,
     count: usize,
     labels: &'a [u8],
     targets: &'a [u8],
@@ -115,5 +120,5 @@ pub(crate) fn into_records<'a>(
         len: FILL,
         rule: FILL,
     };
-    cut_records(count, labels, targets, text, most, empty);
+    cut_records(rt, count, labels, targets, text, most, empty);
 }

@@ -18,6 +18,9 @@ const FILE: usize = 32768;
 
 const FIRST: usize = 2048;
 
+// The second area, and the targets of a table that is loaded.
+const LARGE: usize = 65536;
+
 // Only its length is told: a prover that sees so many cells goes through them.
 fn room() -> [u8; FILE]
     ensures { 32768 ≡ length result }
@@ -25,28 +28,35 @@ fn room() -> [u8; FILE]
     [0; FILE]
 }
 
+// The same of an area that holds more bytes than a table has targets.
+pub(crate) fn large_room() -> [u8; LARGE]
+    ensures { 65536 ≡ length result }
+{
+    [0; LARGE]
+}
+
 // What a case calls, with its areas.
-fn call<'a>(case: Case, a: &'a [u8], b: &'a [u8], c: &'a [u8]) {
+fn call<'a>(rt: &HostRuntime, case: Case, a: &'a [u8], b: &'a [u8], c: &'a [u8]) {
     let first = case.first;
     let second = case.second;
     let letter = case.call;
     match letter {
-        b'n' => bytes::tell_number(number::read_number(a, first)),
-        b'f' => bytes::tell_field(number::read_field(a, 0, first, second)),
-        b'b' => bytes::tell_book(a),
-        b'k' => bytes::tell_kind(a, first),
-        b's' => tables::tell_load(a, STATES, TABLE_CELLS, first),
-        b'l' => tables::tell_load(a, first, second, 0),
-        b'w' => tables::tell_write(first, a, b, second),
-        b'c' => cuts::into_cells(first, a, b, c, second, case.third),
-        _ => cuts::into_records(first, a, b, c, second),
+        b'n' => bytes::tell_number(rt, number::read_number(a, first)),
+        b'f' => bytes::tell_field(rt, number::read_field(a, 0, first, second)),
+        b'b' => bytes::tell_book(rt, a),
+        b'k' => bytes::tell_kind(rt, a, first),
+        b's' => tables::tell_load(rt, a, STATES, TABLE_CELLS, first),
+        b'l' => tables::tell_load(rt, a, first, second, 0),
+        b'w' => tables::tell_write(rt, first, a, b, second),
+        b'c' => cuts::into_cells(rt, first, a, b, c, second, case.third),
+        _ => cuts::into_records(rt, first, a, b, c, second),
     }
 }
 
 // The areas of a case, behind its colon.
-fn run_case(line: &[u8], from: usize, case: Case) {
+fn run_case(rt: &HostRuntime, line: &[u8], from: usize, case: Case) {
     let mut first = [0u8; FIRST];
-    let mut second = io::large_buffer();
+    let mut second = large_room();
     let mut third = room();
     let a = reading::fill(line, from, &mut first);
     let b = reading::fill(line, a.next, &mut second);
@@ -54,11 +64,11 @@ fn run_case(line: &[u8], from: usize, case: Case) {
     let i = a.value;
     let j = b.value;
     let k = c.value;
-    call(case, &first[0..i], &second[0..j], &third[0..k]);
+    call(rt, case, &first[0..i], &second[0..j], &third[0..k]);
 }
 
 // A case's label is printed, with its colon and a space; a line without a label, or with a mark before it, is none.
-fn run_line(line: &[u8]) {
+fn run_line(rt: &HostRuntime, line: &[u8]) {
     let colon = reading::find(line, 0, b':');
     if line.len() < colon + 2 {
         return;
@@ -67,24 +77,24 @@ fn run_line(line: &[u8]) {
     if letter == b'#' {
         return;
     }
-    say::text(&line[0..colon + 2]);
-    run_case(line, colon, reading::case_of(line, letter, colon + 2));
+    say::text(rt, &line[0..colon + 2]);
+    run_case(rt, line, colon, reading::case_of(line, letter, colon + 2));
 }
 
-fn run_lines(text: &[u8]) {
+fn run_lines(rt: &HostRuntime, text: &[u8]) {
     let mut at: usize = 0;
     while at < text.len() {
         let stop = reading::find(text, at, b'\n');
         if stop < at {
             return;
         }
-        run_line(&text[at..stop]);
+        run_line(rt, &text[at..stop]);
         at = stop + 1;
     }
 }
 
-fn main() {
+fn main(rt: HostRuntime) {
     let mut file = room();
-    let end = reading::read(b"cases", &mut file);
-    run_lines(&file[0..end]);
+    let end = reading::read(&rt, b"cases", &mut file);
+    run_lines(&rt, &file[0..end]);
 }

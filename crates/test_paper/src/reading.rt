@@ -21,16 +21,13 @@ pub(crate) struct Case {
     pub(crate) third: usize,
 }
 
-pub(crate) fn read(name: &[u8], buffer: &mut [u8]) -> usize
+pub(crate) fn read(rt: &HostRuntime, name: &[u8], buffer: &mut [u8]) -> usize
     ensures { result ≤ length buffer.new }
 {
-    let fd = os::open_read(name);
-    if fd < 0 {
-        return 0;
+    match files::open(rt, name) {
+        Ok(file) => files::read_all(Ok(file), buffer),
+        Err(_) => 0,
     }
-    let n = io::read_full(fd, buffer);
-    libc::close(fd);
-    n
 }
 
 // The first place of a byte from a place on, or the end.

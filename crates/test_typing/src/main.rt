@@ -4,7 +4,6 @@
 
 ghost use Rattle.std.specs.Prelude.{◌≤◌, length};
 
-use libc::STDOUT_FILENO;
 use lines::LINE_ROOM;
 use number::Refusal;
 use number::limits::TYPED_AREA;
@@ -21,112 +20,101 @@ const AREA: usize = TYPED_AREA + 1;
 
 const FILL: u8 = 170;
 
-fn read_text(name: &[u8], buffer: &mut [u8]) -> usize
+// A text that is not there fills the buffer.
+fn read_text(rt: &HostRuntime, name: &[u8], buffer: &mut [u8]) -> usize
     ensures { result ≤ length buffer.new }
 {
-    let fd = os::open_read(name);
-    if fd < 0 {
-        return buffer.len();
-    }
-    let n = io::read_full(fd, buffer);
-    libc::close(fd);
-    n
+    files::read_named(rt, name, buffer)
 }
 
 fn digit(n: usize) -> u8 {
     (48 + n % 10) as u8
 }
 
-fn wide(b: u8) -> u64 {
-    b as u64
+fn say(rt: &HostRuntime, text: &[u8]) {
+    files::print(rt, text);
 }
 
-fn say(text: &[u8]) {
-    io::write_all(STDOUT_FILENO, text);
-}
-
-fn say_refused(r: Refusal) {
+fn say_refused(rt: &HostRuntime, r: Refusal) {
     let mut out = [0u8; LINE_ROOM];
     let end = lines::put_refused(r, &mut out, 0);
-    say(&out[0..end]);
+    say(rt, &out[0..end]);
 }
 
-fn say_book(book: &[u8]) {
-    say(b"book ");
-    let mut i = 0;
-    while i < book.len() {
-        let byte = book[i];
-        io::print_hex(STDOUT_FILENO, wide(byte), 2);
-        i += 1;
+fn say_byte(rt: &HostRuntime, byte: u8) {
+    let _ = print!(rt; "{byte:02x}");
+}
+
+fn say_book(rt: &HostRuntime, book: &[u8]) {
+    say(rt, b"book ");
+    for byte in book {
+        say_byte(rt, *byte);
     }
-    say(b"\n");
+    say(rt, b"\n");
 }
 
 // Says so if a byte of a part is not as it was.
-fn say_changed(part: &[u8]) {
-    let mut i = 0;
-    while i < part.len() {
-        if part[i] != FILL {
-            say(b"changed\n");
+fn say_changed(rt: &HostRuntime, part: &[u8]) {
+    for byte in part {
+        if *byte != FILL {
+            say(rt, b"changed\n");
             return;
         }
-        i += 1;
     }
 }
 
 // A text typed into an area.
-fn type_into(text: &[u8], area: &mut [u8]) {
+fn type_into(rt: &HostRuntime, text: &[u8], area: &mut [u8]) {
     match typing::type_rules(text, area) {
         Written::Bytes(n) => {
             if n <= area.len() {
-                say_book(&area[0..n]);
+                say_book(rt, &area[0..n]);
                 let end = area.len();
-                say_changed(&area[n..end]);
+                say_changed(rt, &area[n..end]);
             }
         }
         Written::Unwritten(r) => {
-            say_refused(r);
-            say_changed(area);
+            say_refused(rt, r);
+            say_changed(rt, area);
         }
     }
 }
 
 // The same into the first bytes of an area of our own.
-fn type_case(text: &[u8], length: usize) {
+fn type_case(rt: &HostRuntime, text: &[u8], length: usize) {
     let mut area = [FILL; AREA];
     if length <= AREA {
-        type_into(text, &mut area[0..length]);
+        type_into(rt, text, &mut area[0..length]);
     }
 }
 
 // Runs a case, and answers whether there was one.
-fn run_case(k: usize, length: usize) -> bool {
+fn run_case(rt: &HostRuntime, k: usize, length: usize) -> bool {
     let a = digit(k / 100);
     let b = digit(k / 10);
     let c = digit(k);
     let mut text = [0u8; TEXT];
     let n = read_text(
+        rt,
         &[b't', a, b, c, b'.', b'r', b'u', b'l', b'e', b's'],
         &mut text,
     );
     if n == TEXT {
         return false;
     }
-    say(&[b't', a, b, c, b' ']);
-    type_case(&text[0..n], length);
+    say(rt, &[b't', a, b, c, b' ']);
+    type_case(rt, &text[0..n], length);
     true
 }
 
 // All texts, and the first with other areas; the first number without a text ends the run.
-fn main() {
-    run_case(0, 0);
-    run_case(0, TYPED_AREA - 1);
-    run_case(0, AREA);
-    let mut k: usize = 0;
-    while k < NUMBERS {
-        if !run_case(k, TYPED_AREA) {
+fn main(rt: HostRuntime) {
+    run_case(&rt, 0, 0);
+    run_case(&rt, 0, TYPED_AREA - 1);
+    run_case(&rt, 0, AREA);
+    for k in 0..NUMBERS {
+        if !run_case(&rt, k, TYPED_AREA) {
             return;
         }
-        k += 1;
     }
 }

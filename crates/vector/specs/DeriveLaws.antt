@@ -24,7 +24,7 @@ use Rattle.walk.specs.Vectors.Vector.{TooLong, Terms}
 use Rattle.walk.specs.Parts.{with_vector}
 use Rattle.pool.specs.Pooled.{terms_of}
 use Rattle.pool.specs.Index.{Indexed, Put}
-use Rattle.pool.specs.PoolLaws.{pooled, pool_as}
+use Rattle.pool.specs.PoolLaws.{pool_as}
 use Rattle.vector.specs.Layout.{nothing_cell}
 use Rattle.vector.specs.Vectors.{vector_of}
 use Rattle.vector.specs.Promises.{Derivable, Done, Spared}

@@ -7,6 +7,7 @@ use mathlib.Core.Bool.{true}
 use Rattle.book.specs.Book.{allowed}
 use Rattle.book.specs.ReadLawsSteps.{not-true, not-false}
 use Rattle.book.specs.CodeLaws.{after_lacking, after_nothing, after_empty, after_range, after_cat, after_alt, after_star, after_either, after_and, after_not, after_none}
+use borrow.Author.Rules.{rules}
 use Rattle.book.proofs.read_after.Goals as goal
 
 pub returns-then-not-allowed : goal.returns-then-not-allowed
@@ -60,5 +61,4 @@ returns-in-8 c =
 pub returns-in_default : goal.returns-in_default
 returns-in_default c =
     let known : allowed c.args.version c.args.code ≡ true = sym c.allowed.ensures ∙ not-false _ (ap not c.if-not-allowed.false) in
-    sym (after_none _ _ _ _ _ known c.in_default.in_default-own.rest.0.0.0.0.0.0.0.0.1 c.in_default.in_default-own.rest.0.0.0.0.0.0.0.1 c.in_default.in_default-own.rest.0.0.0.0.0.0.1 c.in_default.in_default-own.rest.0.0.0.0.0.1
-    c.in_default.in_default-own.rest.0.0.0.0.1 c.in_default.in_default-own.rest.0.0.0.1 c.in_default.in_default-own.rest.0.0.1 c.in_default.in_default-own.rest.0.1 c.in_default.in_default-own.rest.1)
+    sym (after_none _ _ _ _ _ known (search rules) (search rules) (search rules) (search rules) (search rules) (search rules) (search rules) (search rules) (search rules))

@@ -14,7 +14,6 @@ use Rattle.building.specs.AnswerLaws.{
   build_refused,
   build_done,
 }
-use borrow.Author.Rules.{rules}
 use Rattle.building.proofs.build.Goals as goal
 
 pub returns-then-labels_end-lt-STATES : goal.returns-then-labels_end-lt-STATES

@@ -1,7 +1,6 @@
 -- `building::build_book` meets its contract: a book that is refused builds no table, and any other is opened with its rules.
 -- Assumes nothing.
 use Rattle.building.specs.AnswerLaws.{tabled_as, book_refused, book_opened, book_table}
-use borrow.Author.Rules.{rules}
 use Rattle.building.proofs.build_book.Goals as goal
 
 pub build_rules-requires : goal.build_rules-requires

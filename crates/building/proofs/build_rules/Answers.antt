@@ -1,7 +1,6 @@
 -- `building::build_rules` meets its contract: the walk that begins at vector 0 is the one that builds the book's rules.
 -- Assumes nothing.
 use Rattle.building.specs.AnswerLaws.{tabled_as, rules_long, rules_stop, rules_fillable, rules_table}
-use borrow.Author.Rules.{rules}
 use mathlib.Core.Path.{refl}
 use lib.ListN.{replicate}
 use Rattle.pool.specs.Index.{heads}

@@ -9,7 +9,6 @@ use Rattle.book.specs.Promises.{checks}
 use Rattle.book.specs.AnswerLaws.{value_told, refusal_given}
 use Rattle.book.specs.CodeLaws.{summed, BookHead, book_version_refused, book_count_refused, book_rules_refused}
 use Rattle.book.specs.CodeLaws.{book_tail, book_counts}
-use borrow.Author.Rules.{rules}
 use Rattle.checking.proofs.check_book.Goals as goal
 
 pub returns-in_default : goal.returns-in_default

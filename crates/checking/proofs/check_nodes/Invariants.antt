@@ -1,15 +1,11 @@
 -- `checking::check_nodes` meets its contract: what is left to read tells what was asked, by one law of the nodes of a rule a turn.
 -- The measure is the number of nodes that are left. Assumes nothing.
-use Prim.Native.Nat.{ℕ, suc, ◌+◌, ◌-◌, ◌≤◌}
-use native.Mathlib.Omega.{arith}
-use mathlib.Core.Path.{◌≡◌, refl, sym}
-use borrow.Author.Rules.{rules}
+use Prim.Native.Nat.{ℕ, ◌+◌, ◌≤◌}
+use mathlib.Core.Path.{◌≡◌}
 use Rattle.number.specs.Limits.{nodes}
 use Rattle.number.specs.declared.Refusal.{Refusal}
 use Rattle.number.specs.Refused.Answer.{got, refused}
-use Rattle.book.specs.Reads.{read_node}
-use Rattle.book.specs.AnswerLaws.{got_is, node_told, node_refusal_given}
-use Rattle.book.specs.CodeLaws.{counted, nodes_one_left, nodes_not_one, nodes_refused, nodes_lack, nodes_rest_refused, nodes_rest_got}
+use Rattle.book.specs.CodeLaws.{counted}
 use Rattle.checking.proofs.check_nodes.Given as goal
 
 -- the rest is refused as the whole is; where it is got, the whole has the nodes read before it as well

@@ -1,17 +1,11 @@
 -- `checking::check_rules` meets its contract: what is left to read tells what was asked, by one law of the rules of a book a turn.
 -- The measure is the number of rules that are left. Assumes nothing.
-use Prim.Native.Nat.{ℕ, suc, ◌+◌, ◌-◌, ◌≤◌}
-use native.Mathlib.Omega.{arith}
-use mathlib.Core.Path.{◌≡◌, refl, sym, ap, ◌∙◌}
-use borrow.Author.Rules.{rules}
+use Prim.Native.Nat.{ℕ, ◌+◌, ◌≤◌}
+use mathlib.Core.Path.{◌≡◌}
 use Rattle.number.specs.Limits.{nodes}
 use Rattle.number.specs.declared.Refusal.{Refusal}
 use Rattle.number.specs.Refused.Answer.{got, refused}
-use Rattle.number.specs.Numbers.{taken}
-use Rattle.number.specs.NumberLaws.{field_read}
-use Rattle.book.specs.AnswerLaws.{got_is, value_told}
-use Rattle.book.specs.CodeLaws.{counted, summed, HeadRead, rules_none, rules_kind_refused, rules_count_refused, rules_over}
-use Rattle.book.specs.CodeLaws.{rules_nodes_refused, rules_rest_refused, rules_rest_got}
+use Rattle.book.specs.CodeLaws.{summed}
 use Rattle.checking.proofs.check_rules.Given as goal
 
 -- the rest is refused as the whole is; where it is got, the whole has the nodes of the rules read before it as well

@@ -1,6 +1,5 @@
 -- `comparing::compare_book` meets its contract: too little room, with nothing changed, or what comparing answers, with the work area all 0.
 -- Assumes nothing.
-use borrow.Author.Rules.{rules}
 use Rattle.comparing.specs.AnswerLaws.{blank_filled, compare_small_area, compare_small_work, compare_done}
 use Rattle.comparing.proofs.compare_book.Goals as goal
 

@@ -3,8 +3,6 @@
 use native.Mathlib.Omega.{arith}
 use mathlib.Core.Path.{◌≡◌, refl, sym, ap, ◌∙◌}
 use mathlib.Core.Bool.{true}
-use borrow.Author.Rules.{rules}
-use borrow.Author.Tests.{not-true, not-false}
 use Rattle.number.specs.Refused.Outcome.{gives}
 use Rattle.book.specs.Reads.{read_book}
 use Rattle.book.specs.Calls.{checked, size_of}
@@ -15,39 +13,39 @@ use Rattle.comparing.proofs.compare_loaded.Goals as goal
 
 pub returns-then-not-well_formed : goal.returns-then-not-well_formed
 returns-then-not-well_formed c =
-    loaded_ill _ _ _ _ _ c.requires.blank (sym (not-true c.well_formed.result c.if-not-well_formed.taken) ∙ c.well_formed.ensures.answer)
+    loaded_ill _ _ _ _ _ c.requires.blank (sym c.if-not-well_formed.true ∙ c.well_formed-2.ensures.answer)
 
 pub overflow_mul-end : goal.overflow_mul-end
 overflow_mul-end c =
-    let well : (true ≡ well_formed c.args.count c.args.labels.now c.args.targets.now) = sym (not-false c.well_formed.result c.if-not-well_formed.left) ∙ c.well_formed.ensures.answer in
+    let well : (true ≡ well_formed c.args.count c.args.labels.now c.args.targets.now) = sym c.if-not-well_formed.false ∙ c.well_formed-2.ensures.answer in
     let fitting : (Fitting c.args.count c.args.labels.now c.args.targets.now) = well_fits _ _ _ well in
     omega (arith, fitting.most)
 
 pub slice_bounds-ls-end : goal.slice_bounds-ls-end
 slice_bounds-ls-end c =
-    let well : (true ≡ well_formed c.args.count c.args.labels.now c.args.targets.now) = sym (not-false c.well_formed.result c.if-not-well_formed.left) ∙ c.well_formed.ensures.answer in
+    let well : (true ≡ well_formed c.args.count c.args.labels.now c.args.targets.now) = sym c.if-not-well_formed.false ∙ c.well_formed-2.ensures.answer in
     let fitting : (Fitting c.args.count c.args.labels.now c.args.targets.now) = well_fits _ _ _ well in
     fitting.labelled
 
 pub slice_bounds-ts-end : goal.slice_bounds-ts-end
 slice_bounds-ts-end c =
-    let well : (true ≡ well_formed c.args.count c.args.labels.now c.args.targets.now) = sym (not-false c.well_formed.result c.if-not-well_formed.left) ∙ c.well_formed.ensures.answer in
+    let well : (true ≡ well_formed c.args.count c.args.labels.now c.args.targets.now) = sym c.if-not-well_formed.false ∙ c.well_formed-2.ensures.answer in
     let fitting : (Fitting c.args.count c.args.labels.now c.args.targets.now) = well_fits _ _ _ well in
     fitting.targeted
 
 pub compare_rules-requires : goal.compare_rules-requires
 compare_rules-requires c =
-    let well : (true ≡ well_formed c.args.count c.args.labels.now c.args.targets.now) = sym (not-false c.well_formed.result c.if-not-well_formed.left) ∙ c.well_formed.ensures.answer in
+    let well : (true ≡ well_formed c.args.count c.args.labels.now c.args.targets.now) = sym c.if-not-well_formed.false ∙ c.well_formed-2.ensures.answer in
     let counts : (size_of (read_book c.args.book.now) ≡ gives (record { rules = c.in-Counts.n; nodes = c.in-Counts.field-1 })) = sym c.check_book-checked.ensures.answer ∙ ap checked c.in-Counts.is in
     loaded_comparable _ _ _ _ _ c.requires.blank well _ _ counts _ _ refl refl _ c.requires.work_length_in_bounds c.requires.cells_len_bound
 
 pub returns-in-Refused : goal.returns-in-Refused
 returns-in-Refused c =
-    let well : (true ≡ well_formed c.args.count c.args.labels.now c.args.targets.now) = sym (not-false c.well_formed.result c.if-not-well_formed.left) ∙ c.well_formed.ensures.answer in
+    let well : (true ≡ well_formed c.args.count c.args.labels.now c.args.targets.now) = sym c.if-not-well_formed.false ∙ c.well_formed-2.ensures.answer in
     loaded_refused _ _ _ _ _ c.requires.blank well _ (sym c.check_book-checked.ensures.answer ∙ ap checked c.in-Refused.is)
 
 pub returns-in-Counts : goal.returns-in-Counts
 returns-in-Counts c =
-    let well : (true ≡ well_formed c.args.count c.args.labels.now c.args.targets.now) = sym (not-false c.well_formed.result c.if-not-well_formed.left) ∙ c.well_formed.ensures.answer in
+    let well : (true ≡ well_formed c.args.count c.args.labels.now c.args.targets.now) = sym c.if-not-well_formed.false ∙ c.well_formed-2.ensures.answer in
     let counts : (size_of (read_book c.args.book.now) ≡ gives (record { rules = c.in-Counts.n; nodes = c.in-Counts.field-1 })) = sym c.check_book-checked.ensures.answer ∙ ap checked c.in-Counts.is in
     loaded_compared _ _ _ _ _ c.requires.blank well _ _ counts _ _ refl refl _ _ c.compare_rules.ensures

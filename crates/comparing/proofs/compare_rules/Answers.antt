@@ -1,7 +1,6 @@
 -- `comparing::compare_rules` meets its contract: the walk is refused, or what it found is shown.
 -- Assumes nothing.
 use native.Mathlib.Omega.{arith}
-use borrow.Author.Rules.{rules}
 use Rattle.comparing.specs.AnswerLaws.{rules_refused, rules_legible, rules_traced, rules_shown}
 use Rattle.comparing.proofs.compare_rules.Goals as goal
 

@@ -1,7 +1,6 @@
 -- `derivative::both_sides` meets its contract: the kind was compared as its definition compares it.
 -- Assumes nothing.
 use borrow.Author.Tests.{eq-eqb, ne_eqb}
-use borrow.Author.Rules.{rules}
 use Rattle.derivative.proofs.both_sides.Goals as goal
 
 pub returns-then-kind-eq-CAT : goal.returns-then-kind-eq-CAT

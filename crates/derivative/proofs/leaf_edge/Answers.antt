@@ -2,7 +2,6 @@
 -- Assumes nothing.
 use native.Mathlib.Omega.{arith}
 use mathlib.Core.Path.{◌≡◌, sym, ◌∙◌}
-use borrow.Author.Rules.{rules}
 use Rattle.term.specs.Nodes.{kind_of}
 use Rattle.derivative.specs.EdgeLaws.{before_range, in_range, after_range, no_range}
 use Rattle.derivative.proofs.leaf_edge.Goals as goal

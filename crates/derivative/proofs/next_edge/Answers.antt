@@ -9,7 +9,6 @@ use borrow.Author.Rules.{rules}
 use Rattle.meaning.specs.Limited.{short}
 use Rattle.term.specs.Cells.{node_of, term, Sound}
 use Rattle.term.specs.Nodes.{arity_of, Found}
-use Rattle.term.specs.Places.{ahead}
 use Rattle.term.specs.CellLaws.{below_fields, found}
 use Rattle.term.specs.ReadLaws.{arity_two}
 use Rattle.derivative.specs.Waiting.{leaf_edge, Passing}

@@ -2,7 +2,6 @@
 -- Assumes nothing.
 use mathlib.Core.Path.{sym, ◌∙◌}
 use borrow.Author.Tests.{eq-eqb, ne_eqb}
-use borrow.Author.Rules.{rules}
 use Rattle.derivative.proofs.rest_of.Goals as goal
 
 pub returns-then-arity-eq1 : goal.returns-then-arity-eq1

@@ -1,13 +1,8 @@
 -- `filled::fill_labels` meets its contract: the labels of the items below the next one stand at the front of the area.
 -- Assumes nothing.
-use Prim.Native.Nat.{◌-◌, ◌≤◌}
 use native.Mathlib.Omega.{arith}
 use mathlib.Core.Path.{◌≡◌, refl}
 use borrow.Author.Rules.{rules}
-use lib.ListN.{length}
-use Rattle.number.specs.Lists.{written}
-use Rattle.vector.specs.Memory.{items_of}
-use Rattle.filled.specs.Tabled.{labels_of}
 use Rattle.filled.specs.TabledLaws.{labelled_first, labelled_within, labelled_reads, labelled_small, labelled_more}
 use Rattle.filled.proofs.fill_labels.Goals as goal
 

@@ -1,17 +1,14 @@
 -- `filled::fill_rows` meets its contract: the rows of the items below the next one stand in the targets.
 -- A refused row ends the walk; where no item remains it is whole. Assumes nothing.
 use Prim.Native.Nat.{◌-◌}
-use native.Mathlib.Omega.{arith}
-use mathlib.Core.Path.{◌≡◌, refl}
-use borrow.Author.Rules.{rules}
+use mathlib.Core.Path.{◌≡◌}
 use lib.ListN.{length}
 use Rattle.number.specs.Limits.{states}
 use Rattle.walk.specs.Walk.{rows}
 use Rattle.vector.specs.Memory.{held_of}
 use Rattle.built.specs.Build.{alone}
-use Rattle.filled.specs.TabledLaws.{Rowing, rowing_first, rowing_fillable, rowing_stop, rowing_more, rowing_end}
+use Rattle.filled.specs.TabledLaws.{Rowing}
 use Rattle.pool.specs.Index.{Indexed}
-use Rattle.steps.specs.CallLaws.{followed}
 use Rattle.filled.proofs.fill_rows.Given as goal
 
 abbrev pub invariant-loop-i : goal.invariant-loop-i

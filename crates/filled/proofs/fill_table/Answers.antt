@@ -1,7 +1,6 @@
 -- `filled::fill_table` meets its contract: a refused walk is the table's refusal; else its rows and the items' labels are the table.
 -- Assumes nothing.
 use Rattle.filled.specs.TabledLaws.{table_stop, table_labelled, table_done}
-use borrow.Author.Rules.{rules}
 use Rattle.filled.proofs.fill_table.Goals as goal
 
 pub fill_labels-requires : goal.fill_labels-requires

@@ -2,7 +2,6 @@
 -- Assumes nothing.
 use native.Mathlib.Omega.{arith}
 use mathlib.Core.Path.{ap}
-use borrow.Author.Rules.{rules}
 use Rattle.number.specs.Numbers.{taken}
 use Rattle.reading.specs.ReadingLaws.{SheetGot, sheet_read, sheet_refused}
 use Rattle.loading.specs.LoadLaws.{load_few_labels, load_few_targets, load_refused, load_got}

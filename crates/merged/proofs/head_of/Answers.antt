@@ -1,7 +1,6 @@
 -- `merged::head_of` meets its contract: of what is joined so its left side, of anything else itself.
 -- Assumes nothing.
 use mathlib.Core.Path.{sym, ◌∙◌}
-use borrow.Author.Rules.{rules}
 use Rattle.merged.proofs.head_of.Goals as goal
 
 pub returns-then-joins : goal.returns-then-joins

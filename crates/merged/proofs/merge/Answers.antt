@@ -5,7 +5,6 @@ use Rattle.term.specs.CellLaws.{found}
 use Rattle.normal.specs.NodeLaws.{told_nothing}
 use Rattle.merged.specs.Asked.{Sides}
 use Rattle.merged.specs.UniteLaws.{none_left, none_right, merge_asks, merge_made}
-use borrow.Author.Rules.{rules}
 use Rattle.merged.proofs.merge.Goals as goal
 
 pub returns-then-is_nothing : goal.returns-then-is_nothing

@@ -4,7 +4,6 @@ use Rattle.term.specs.CellLaws.{found}
 use Rattle.normal.specs.NodeLaws.{told_nothing}
 use Rattle.normal.specs.AnswerLaws.{fitted, fits_made}
 use Rattle.merged.specs.UniteLaws.{none_left, none_right, beside_short, beside_short_right, merge_counts}
-use borrow.Author.Rules.{rules}
 use Rattle.merged.proofs.merge_short.Goals as goal
 
 pub returns-then-is_nothing : goal.returns-then-is_nothing

@@ -1,10 +1,7 @@
 -- `merged::next_member` meets its contract: one law of the merge a return, by the order of the first members.
 -- Assumes nothing.
-use Prim.Native.Nat.{ℕ}
 use native.Mathlib.Omega.{arith}
 use mathlib.Core.Path.{◌≡◌, refl, sym, ap, ◌∙◌}
-use mathlib.Core.List.{List}
-use Rattle.meaning.specs.declared.Join.{Join}
 use Rattle.meaning.specs.Order.{order}
 use Rattle.term.specs.declared.Order.{Order}
 use Rattle.term.specs.declared.Order.TheVariants.{Less, Equal, Greater}
@@ -15,7 +12,6 @@ use Rattle.normal.specs.NodeLaws.{told_joins, told_single}
 use Rattle.merged.specs.Asked.{Meets}
 use Rattle.merged.specs.Merge.{Heads}
 use Rattle.merged.specs.MergeLaws.{heads, heads_ask, less_one, less_more, same_one, same_left, same_more, greater_one, greater_more}
-use borrow.Author.Rules.{rules}
 use Rattle.merged.proofs.next_member.Goals as goal
 
 pub compare_terms-order-requires : goal.compare_terms-order-requires

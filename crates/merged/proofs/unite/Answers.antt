@@ -1,6 +1,6 @@
 -- `merged::unite` meets its contract: a turn lists a member of the merge, and where what is left stands in a cell all are nested.
 -- Assumes nothing.
-use Rattle.std.proofs.Common.{arith, ◌<◌, length}
+use Rattle.std.proofs.Common.{arith, ◌<◌}
 use Rattle.number.specs.Limits.{work_cells}
 use Rattle.merged.specs.UniteLaws.{whole, pair, more, meets, uniting_first, whole_asks, whole_made}
 use Rattle.merged.specs.UniteLaws.{pair_inside, pair_asks, pair_made, more_inside, uniting_next}

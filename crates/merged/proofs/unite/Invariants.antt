@@ -1,14 +1,7 @@
 -- `merged::unite` meets its contract: a turn lists a member of the merge, and where what is left stands in a cell all are nested.
 -- The measure is the sum of both cells' numbers. Assumes nothing.
-use Prim.Native.Nat.{◌+◌, ◌<◌}
-use native.Mathlib.Omega.{arith}
-use lib.ListN.{length}
-use borrow.Author.Rules.{rules}
-use Rattle.number.specs.Limits.{work_cells}
-use Rattle.merged.specs.Asked.{Unites}
-use Rattle.merged.specs.Merge.{Goes}
-use Rattle.merged.specs.UniteLaws.{whole, pair, more, meets, Uniting, uniting_first, whole_asks, whole_made}
-use Rattle.merged.specs.UniteLaws.{pair_inside, pair_asks, pair_made, more_inside, uniting_next}
+use Prim.Native.Nat.{◌+◌}
+use Rattle.merged.specs.UniteLaws.{Uniting}
 use Rattle.merged.proofs.unite.Given as goal
 
 abbrev pub invariant-loop-root : goal.invariant-loop-root

@@ -5,7 +5,6 @@ use Rattle.term.specs.CellLaws.{found}
 use Rattle.normal.specs.Asked.{Links}
 use Rattle.normal.specs.NodeLaws.{told_nothing, told_empty}
 use Rattle.normal.specs.ChainLaws.{cat_none_left, cat_none_right, cat_skip_left, cat_skip_right, cat_both}
-use borrow.Author.Rules.{rules}
 use Rattle.normal.proofs.cat.Goals as goal
 
 pub returns-then-is_nothing : goal.returns-then-is_nothing

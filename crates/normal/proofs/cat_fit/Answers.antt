@@ -2,7 +2,6 @@
 -- Assumes nothing.
 use Rattle.normal.specs.ChainLaws.{cat_counts}
 use Rattle.normal.specs.AnswerLaws.{fitted}
-use borrow.Author.Rules.{rules}
 use Rattle.normal.proofs.cat_fit.Goals as goal
 
 pub cat-made-requires : goal.cat-made-requires

@@ -4,7 +4,6 @@ use Prim.Native.Nat.{◌<◌}
 use native.Mathlib.Omega.{arith}
 use mathlib.Core.Path.{◌≡◌}
 use lib.ListN.{get_or}
-use borrow.Author.Rules.{rules}
 use Rattle.number.specs.Limits.{work_cells}
 use Rattle.term.specs.Cells.{node_of}
 use Rattle.normal.specs.Asked.{Links}

@@ -1,7 +1,6 @@
 -- `normal::fit` meets its contract: the test of the length tells which answer it is.
 -- Assumes nothing.
 use mathlib.Core.Path.{sym, ◌∙◌}
-use borrow.Author.Rules.{rules}
 use Rattle.normal.proofs.fit.Goals as goal
 
 pub returns-then-is_short : goal.returns-then-is_short

@@ -1,6 +1,5 @@
 -- `normal::joined` meets its contract: the answer is the node of the join's kind.
 -- Assumes nothing.
-use borrow.Author.Rules.{rules}
 use Rattle.normal.proofs.joined.Goals as goal
 
 pub returns-in-Then : goal.returns-in-Then

@@ -1,6 +1,5 @@
 -- `normal::joins` meets its contract: the node's kind is the operator's, or it is not.
 -- Assumes nothing.
-use borrow.Author.Rules.{rules}
 use Rattle.normal.proofs.joins.Goals as goal
 
 pub returns-in-Then : goal.returns-in-Then

@@ -4,7 +4,6 @@ use mathlib.Core.Path.{sym, ◌∙◌}
 use Rattle.term.specs.Nodes.{Found}
 use Rattle.term.specs.CellLaws.{found}
 use Rattle.normal.specs.ChainLaws.{negated_not, negated_new}
-use borrow.Author.Rules.{rules}
 use Rattle.normal.proofs.negated.Goals as goal
 
 pub returns-then-kind_of-eq-NOT : goal.returns-then-kind_of-eq-NOT

@@ -1,7 +1,6 @@
 -- `normal::negated_fit` meets its contract: what negated made is counted.
 -- Assumes nothing.
 use Rattle.normal.specs.AnswerLaws.{fitted, made_counts}
-use borrow.Author.Rules.{rules}
 use Rattle.normal.proofs.negated_fit.Goals as goal
 
 pub fit-requires : goal.fit-requires

@@ -1,11 +1,8 @@
 -- `normal::nest` meets its contract: a turn stores the node of the last member that is left, in the next cell of the list.
 -- The measure is how many are left. Assumes nothing.
 use Prim.Native.Nat.{ℕ, ◌-◌}
-use native.Mathlib.Omega.{arith}
 use mathlib.Core.List.{List}
-use borrow.Author.Rules.{rules}
 use Rattle.normal.specs.Nest.{Lists, Turned, Nesting}
-use Rattle.normal.specs.NestLaws.{nesting_first, at_inside, node_low, nesting_next, nested_all}
 use Rattle.normal.proofs.nest.Given as goal
 
 -- for the cells as they were before the list was turned around

@@ -5,7 +5,6 @@ use Rattle.term.specs.Nodes.{Found}
 use Rattle.term.specs.CellLaws.{found}
 use Rattle.normal.specs.NodeLaws.{told_nothing, told_empty}
 use Rattle.normal.specs.ChainLaws.{star_nothing, star_empty, star_star, star_new}
-use borrow.Author.Rules.{rules}
 use Rattle.normal.proofs.star.Goals as goal
 
 pub returns-then-is_nothing : goal.returns-then-is_nothing

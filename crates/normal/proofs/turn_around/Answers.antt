@@ -3,8 +3,6 @@
 use Prim.Native.Nat.{◌-◌}
 use native.Mathlib.Omega.{arith}
 use lib.ListN.{get_or, length-set}
-use borrow.Author.Rules.{rules}
-use Rattle.normal.specs.Nest.{Turning}
 use Rattle.normal.specs.NestLaws.{turning_first, turned_all, turning_next}
 use Rattle.normal.proofs.turn_around.Goals as goal
 

@@ -1,11 +1,7 @@
 -- `normal::turn_around` meets its contract: a turn swaps the outermost two cells that are left.
 -- The measure is how many are left. Assumes nothing.
 use Prim.Native.Nat.{◌-◌}
-use native.Mathlib.Omega.{arith}
-use lib.ListN.{get_or, length-set}
-use borrow.Author.Rules.{rules}
 use Rattle.normal.specs.Nest.{Turning}
-use Rattle.normal.specs.NestLaws.{turning_first, turned_all, turning_next}
 use Rattle.normal.proofs.turn_around.Given as goal
 
 abbrev pub invariant-loop-low : goal.invariant-loop-low

@@ -1,7 +1,6 @@
 -- `pair::number_told` meets its contract: the start is looked for among the items, and the number is told by where it stands.
 -- Assumes nothing.
 use native.Mathlib.Omega.{arith}
-use borrow.Author.Rules.{rules}
 use Rattle.pair.specs.ToldLaws.{told_start, told_behind, told_before}
 use Rattle.pair.proofs.number_told.Goals as goal
 

@@ -1,7 +1,6 @@
 -- `pair::state_of` meets its contract: the entry stands at state 0, any other number is one above its state.
 -- Assumes nothing.
 use native.Mathlib.Omega.{arith}
-use borrow.Author.Rules.{rules}
 use Rattle.pair.specs.ToldLaws.{state_entry, state_past}
 use Rattle.pair.proofs.state_of.Goals as goal
 

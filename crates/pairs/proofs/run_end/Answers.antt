@@ -1,11 +1,7 @@
 -- `pairs::run_end` meets its contract. The loop's invariant: from `from` up to i stands one target.
 -- The measure is how much is left up to the end. Assumes nothing.
-use Prim.Native.Nat.{◌-◌}
 use native.Mathlib.Omega.{arith}
-use mathlib.Core.Path.{◌≡◌, refl, ◌∙◌}
-use borrow.Author.Rules.{rules}
-use lib.ListN.{get_or}
-use Rattle.pairs.specs.Promises.{RunTo}
+use mathlib.Core.Path.{refl, ◌∙◌}
 use Rattle.pairs.specs.BesideLaws.{run_first, run_more}
 use Rattle.pairs.proofs.run_end.Goals as goal
 

@@ -1,6 +1,5 @@
 -- `pairs::walk_from` meets its contract: vector 0 is too long, or is refused, or becomes the first item and the rows follow.
 -- Assumes nothing.
-use borrow.Author.Rules.{rules}
 use Rattle.walk.specs.Vectors.{normalised}
 use Rattle.walk.specs.Vectors.Vector.{Terms}
 use Rattle.vector.specs.Vectors.{vector_of}

@@ -1,14 +1,11 @@
 -- `pairs::walk_row` meets its contract. The loop's invariant: with what remains, the numbers reached so far are the whole row.
 -- The measure is how many bytes are left. Assumes nothing.
-use Prim.Native.Nat.{ℕ, ◌+◌, ◌*◌, ◌-◌}
-use native.Mathlib.Omega.{arith}
-use mathlib.Core.Path.{◌≡◌, refl, ap}
-use borrow.Author.Rules.{rules}
+use Prim.Native.Nat.{◌-◌}
+use mathlib.Core.Path.{◌≡◌}
 use lib.ListN.{length}
 use Rattle.number.specs.Limits.{bytes}
-use Rattle.pairs.specs.BesideLaws.{Turn, Onward, turn_first, turn_end, turn_reads, turn_ready, turn_stops, turn_on}
+use Rattle.pairs.specs.BesideLaws.{Turn}
 use Rattle.pool.specs.Index.{Indexed}
-use Rattle.steps.specs.CallLaws.{followed}
 use Rattle.pairs.proofs.walk_row.Given as goal
 
 abbrev pub invariant-loop-c : goal.invariant-loop-c

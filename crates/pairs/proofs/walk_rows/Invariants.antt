@@ -1,14 +1,11 @@
 -- `pairs::walk_rows` meets its contract. The loop's invariant: with what remains, the numbers reached so far are the whole walk.
 -- The measure is how many items may still be walked. Assumes nothing.
 use Prim.Native.Nat.{◌-◌}
-use native.Mathlib.Omega.{arith}
-use mathlib.Core.Path.{◌≡◌, refl}
-use borrow.Author.Rules.{rules}
+use mathlib.Core.Path.{◌≡◌}
 use lib.ListN.{length}
 use Rattle.vector.specs.Layout.{items}
-use Rattle.pairs.specs.BesideLaws.{Rounds, rounds_first, rounds_end, rounds_stop, rounds_next}
+use Rattle.pairs.specs.BesideLaws.{Rounds}
 use Rattle.pool.specs.Index.{Indexed}
-use Rattle.steps.specs.CallLaws.{followed}
 use Rattle.pairs.proofs.walk_rows.Given as goal
 
 abbrev pub invariant-loop-i : goal.invariant-loop-i

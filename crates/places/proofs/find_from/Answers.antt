@@ -7,7 +7,6 @@ use Rattle.number.specs.Refused.Answer.{got}
 use Rattle.book.specs.AnswerLaws.{value_told, refusal_given}
 use Rattle.book.specs.CodeLaws.{BookHead}
 use Rattle.book.specs.PlaceLaws.{from_version_refused, from_count_refused, from_rules}
-use borrow.Author.Rules.{rules}
 use Rattle.places.proofs.find_from.Goals as goal
 
 pub returns-in_default : goal.returns-in_default

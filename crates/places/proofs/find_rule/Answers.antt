@@ -3,10 +3,9 @@
 use Prim.Native.Nat.{◌-◌}
 use native.Mathlib.Omega.{arith}
 use mathlib.Core.Path.{◌≡◌, refl, sym, ap, ◌∙◌}
-use borrow.Author.Rules.{rules}
 use Rattle.number.specs.Refused.Answer.{got}
 use Rattle.number.specs.Numbers.{taken}
-use Rattle.book.specs.Answers.{place_read, read_head, find_rule}
+use Rattle.book.specs.Answers.{place_read, read_head}
 use Rattle.book.specs.AnswerLaws.{value_told, refusal_given, place_told}
 use Rattle.book.specs.CodeLaws.{counted}
 use Rattle.book.specs.PlaceLaws.{head_few, find_head_refused, find_here, find_nodes_refused, find_onward}

@@ -6,7 +6,6 @@ use Rattle.number.specs.Numbers.{field}
 use Rattle.number.specs.Refused.Answer.{got}
 use Rattle.book.specs.AnswerLaws.{value_told, refusal_given}
 use Rattle.book.specs.PlaceLaws.{head_kind_refused, head_count_refused, head_got}
-use borrow.Author.Rules.{rules}
 use Rattle.places.proofs.read_head.Goals as goal
 
 pub returns-in_default : goal.returns-in_default

@@ -8,7 +8,6 @@ use Rattle.book.specs.Calls.{check_of}
 use Rattle.book.specs.Promises.{tells_kind}
 use Rattle.book.specs.AnswerLaws.{counts_told, check_refusal_told, place_told, place_refusal_told}
 use Rattle.book.specs.PlaceLaws.{kind_refused, kind_none, kind_lost, kind_found}
-use borrow.Author.Rules.{rules}
 use Rattle.places.proofs.rule_kind.Goals as goal
 
 pub returns-then-n-rule : goal.returns-then-n-rule

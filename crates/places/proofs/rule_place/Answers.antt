@@ -7,7 +7,6 @@ use Rattle.number.specs.Numbers.{Bytes}
 use Rattle.book.specs.Calls.{check_of}
 use Rattle.book.specs.AnswerLaws.{counts_told, check_refusal_told, place_told, place_refusal_told}
 use Rattle.book.specs.PlaceLaws.{place_refused, place_none, place_lost, place_found}
-use borrow.Author.Rules.{rules}
 use Rattle.places.proofs.rule_place.Goals as goal
 
 pub returns-in_default : goal.returns-in_default

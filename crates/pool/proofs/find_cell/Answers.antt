@@ -4,8 +4,7 @@ use native.Mathlib.Omega.{arith}
 use mathlib.Core.Path.{sym, ◌∙◌}
 use Rattle.meaning.specs.Tests.{clash}
 use Rattle.pool.specs.NodeLaws.{node_same, node_self}
-use Rattle.pool.specs.IndexLaws.{hash_small, Chain, chain_first, chain_next, chain_falls, chain_inside, chain_found, chain_end}
-use borrow.Author.Rules.{rules}
+use Rattle.pool.specs.IndexLaws.{hash_small, chain_first, chain_next, chain_falls, chain_inside, chain_found, chain_end}
 use Rattle.pool.proofs.find_cell.Goals as goal
 
 pub offset_bounds-index-hash_of : goal.offset_bounds-index-hash_of

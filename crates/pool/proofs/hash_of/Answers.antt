@@ -3,7 +3,6 @@
 use native.Mathlib.Omega.{arith}
 use Rattle.pool.specs.Index.{hash_of}
 use Rattle.term.specs.ReadLaws.{kind_most}
-use borrow.Author.Rules.{rules}
 use Rattle.pool.proofs.hash_of.Goals as goal
 
 pub overflow_add-result : goal.overflow_add-result

@@ -7,7 +7,6 @@ use Rattle.term.specs.CellLaws.{below_fields}
 use Rattle.pool.specs.Index.{heads}
 use Rattle.pool.specs.IndexLaws.{hash_small}
 use Rattle.pool.specs.NodeLaws.{put_old, put_new}
-use borrow.Author.Rules.{rules}
 use Rattle.pool.proofs.put_node.Goals as goal
 
 pub find_cell-at-requires : goal.find_cell-at-requires

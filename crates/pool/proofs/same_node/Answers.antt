@@ -2,7 +2,6 @@
 -- Assumes nothing.
 use native.Mathlib.Omega.{arith}
 use Rattle.pool.specs.NodeLaws.{other_kind, other_first, by_second}
-use borrow.Author.Rules.{rules}
 use Rattle.pool.proofs.same_node.Goals as goal
 
 pub returns-then-kind_of : goal.returns-then-kind_of

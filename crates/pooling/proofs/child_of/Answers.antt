@@ -2,7 +2,6 @@
 -- Assumes nothing.
 use native.Mathlib.Omega.{arith}
 use Rattle.pooling.specs.PutLaws.{taken_held, takes_some, taken_made}
-use borrow.Author.Rules.{rules}
 use Prim.Native.Nat.{◌<◌}
 use Rattle.pooling.proofs.child_of.Goals as goal
 

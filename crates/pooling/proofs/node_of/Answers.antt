@@ -5,7 +5,6 @@ use mathlib.Core.Path.{◌≡◌, sym, ◌∙◌}
 use Rattle.term.specs.Nodes.{arity_of}
 use Rattle.term.specs.ReadLaws.{arity_two}
 use Rattle.pooling.specs.PutLaws.{takes_one, takes_two, takes_last, rooted_none, rooted_one, rooted_two}
-use borrow.Author.Rules.{rules}
 use Rattle.pooling.proofs.node_of.Goals as goal
 
 pub returns-then-children-eq0 : goal.returns-then-children-eq0

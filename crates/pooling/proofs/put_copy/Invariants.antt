@@ -1,12 +1,10 @@
 -- `pooling::put_copy` meets its contract: one law for a turn, and one for the end of the loop.
 -- The invariant holds for whatever term was copied out; the measure is how many nodes are left. Assumes nothing.
-use Prim.Native.Nat.{◌-◌, ◌<◌, ◌≤◌}
-use native.Mathlib.Omega.{arith}
-use mathlib.Core.Path.{◌≡◌, refl}
+use Prim.Native.Nat.{◌-◌}
+use mathlib.Core.Path.{◌≡◌}
 use lib.ListN.{length}
 use Rattle.meaning.specs.Re.{Re}
 use Rattle.pooling.specs.Copied.{Copied, Putting}
-use Rattle.pooling.specs.PutLaws.{putting_first, root_inside, put_copied, fit, asks, put_inside, putting_next}
 use Rattle.pooling.proofs.put_copy.Given as goal
 
 abbrev pub invariant-loop-k : goal.invariant-loop-k

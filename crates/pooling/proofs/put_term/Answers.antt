@@ -7,7 +7,6 @@ use Rattle.term.specs.CellLaws.{found}
 use Rattle.term.specs.ReadLaws.{leaf_below}
 use Rattle.pool.specs.IndexLaws.{open_less}
 use Rattle.pooling.specs.PutLaws.{put_held, put_leaf}
-use borrow.Author.Rules.{rules}
 use Rattle.pooling.proofs.put_term.Goals as goal
 
 pub returns-then-i-top : goal.returns-then-i-top
@@ -27,7 +26,7 @@ returns-then-arity-eq0 c =
 
 pub put_copy-requires : goal.put_copy-requires
 put_copy-requires c =
-    record { some_copied = record { v = _; start = c.copy_out-start.ensures }; fact = open_less _ c.requires.fact (omega (arith, c.copy_out-start.ensures.few, c.requires.i_bound)) }
+    record { some_copied = record { v = _; copied = c.copy_out-start.ensures }; fact = open_less _ c.requires.fact (omega (arith, c.copy_out-start.ensures.few, c.requires.i_bound)) }
 
 pub returns : goal.returns
 returns c =

@@ -2,7 +2,6 @@
 -- Assumes nothing.
 use native.Mathlib.Omega.{arith}
 use Rattle.pooling.specs.CopyLaws.{waited_not, waited}
-use borrow.Author.Rules.{rules}
 use Rattle.pooling.proofs.wait.Goals as goal
 
 pub returns-then-child-top : goal.returns-then-child-top

@@ -1,19 +1,16 @@
 -- `reading::read_runs` meets its contract: what the runs to come leave is what was asked, by one law of reading a row a way through a turn.
 -- The measure is the number of runs to come. Assumes nothing.
-use Prim.Native.Nat.{ℕ, ◌+◌, ◌-◌, ◌≤◌}
+use Prim.Native.Nat.{◌+◌, ◌-◌}
 use native.Mathlib.Nat.{add-zero}
 use native.Mathlib.Omega.{arith}
 use mathlib.Core.Path.{◌≡◌, refl, sym, ap, ◌∙◌}
-use mathlib.Core.List.{List}
 use borrow.Author.Rules.{rules}
 use lib.ListN.{length, replicate, length-replicate}
-use Rattle.number.specs.declared.Taken.{Taken}
 use Rattle.number.specs.Limits.{bytes}
 use Rattle.number.specs.Refused.Answer.{got}
 use Rattle.number.specs.Numbers.{field, taken}
 use Rattle.number.specs.NumberLaws.{field_read}
-use Rattle.table.specs.Sheet.{read_runs, more_runs}
-use Rattle.reading.specs.Promises.{LaysRow}
+use Rattle.table.specs.Sheet.{more_runs}
 use Rattle.reading.specs.ReadingLaws.{runs_low, runs_end, runs_no_length, runs_long, runs_no_target, runs_same, runs_more}
 use Rattle.reading.specs.ReadingLaws.{row_stopped, row_end, row_more}
 use Rattle.reading.proofs.read_runs.Goals as goal

@@ -2,7 +2,6 @@
 -- Assumes nothing.
 use native.Mathlib.Omega.{arith}
 use mathlib.Core.Path.{◌≡◌, refl, sym, ap, ◌∙◌}
-use borrow.Author.Rules.{rules}
 use Rattle.number.specs.Limits.{sheet_version, states}
 use Rattle.number.specs.Refused.Answer.{got}
 use Rattle.number.specs.Numbers.{field, taken}

@@ -1,19 +1,16 @@
 -- `reading::read_states` meets its contract: what the states to come leave is what was asked, by one law of reading states a way through a turn.
 -- The measure is the number of states to come. Assumes nothing.
-use Prim.Native.Nat.{ℕ, ◌-◌, ◌*◌, ◌≤◌}
+use Prim.Native.Nat.{◌-◌, ◌*◌}
 use native.Mathlib.Nat.{sub_self}
 use native.Mathlib.Omega.{arith}
 use mathlib.Core.Path.{◌≡◌, refl, sym, ap, ◌∙◌}
-use mathlib.Core.List.{List}
 use borrow.Author.Rules.{rules}
 use lib.ListN.{length, length-set}
-use Rattle.number.specs.declared.Taken.{Taken}
-use Rattle.number.specs.Limits.{rules, bytes}
+use Rattle.number.specs.Limits.{rules as limit, bytes}
 use Rattle.number.specs.Refused.Answer.{got}
 use Rattle.number.specs.Numbers.{field, taken}
 use Rattle.number.specs.NumberLaws.{field_read}
-use Rattle.table.specs.Sheet.{read_runs, read_states, more_states}
-use Rattle.reading.specs.Promises.{LaysRows}
+use Rattle.table.specs.Sheet.{read_runs, more_states}
 use Rattle.reading.specs.ReadingLaws.{runs_cover, RowGot, row_got, row_refused}
 use Rattle.reading.specs.ReadingLaws.{states_end, states_no_label, states_no_count, states_no_row, states_more}
 use Rattle.reading.specs.ReadingLaws.{rows_stopped, rows_end, rows_more}
@@ -42,14 +39,14 @@ shape_of-targets-in_default-count c = c.loop-left.invariant.2
 
 pub returns-in_default-count : goal.returns-in_default-count
 returns-in_default-count c =
-    let label-got : (field c.args.sheet.now 0 rules c.loop-left.place ≡ got c.in-Value.label c.in-Value.at_count) = sym c.read_field-named.ensures.answer ∙ ap taken c.in-Value.is in
+    let label-got : (field c.args.sheet.now 0 limit c.loop-left.place ≡ got c.in-Value.label c.in-Value.at_count) = sym c.read_field-named.ensures.answer ∙ ap taken c.in-Value.is in
     let told = ap taken c.in_default-count.is in
     let refused-at = sym c.read_field-count.ensures.answer ∙ told in
     c.loop-left.invariant.3 _ _ _ (rows_stopped _ (states_no_count _ _ _ _ (c.loop-left.left - 1) (omega arith) label-got refused-at) told)
 
 pub overflow_cast-labels : goal.overflow_cast-labels
 overflow_cast-labels c =
-    let label-got : (field c.args.sheet.now 0 rules c.loop-left.place ≡ got c.in-Value.label c.in-Value.at_count) = sym c.read_field-named.ensures.answer ∙ ap taken c.in-Value.is in
+    let label-got : (field c.args.sheet.now 0 limit c.loop-left.place ≡ got c.in-Value.label c.in-Value.at_count) = sym c.read_field-named.ensures.answer ∙ ap taken c.in-Value.is in
     omega (arith, (field_read _ _ _ _ _ _ label-got).high)
 
 pub read_runs-row-requires : goal.read_runs-row-requires
@@ -65,7 +62,7 @@ shape_of-targets-in_default-row c =
 
 pub returns-in_default-row : goal.returns-in_default-row
 returns-in_default-row c =
-    let label-got : (field c.args.sheet.now 0 rules c.loop-left.place ≡ got c.in-Value.label c.in-Value.at_count) = sym c.read_field-named.ensures.answer ∙ ap taken c.in-Value.is in
+    let label-got : (field c.args.sheet.now 0 limit c.loop-left.place ≡ got c.in-Value.label c.in-Value.at_count) = sym c.read_field-named.ensures.answer ∙ ap taken c.in-Value.is in
     let count-got : (field c.args.sheet.now 1 bytes c.in-Value.at_count ≡ got c.in-Value-count.m c.in-Value-count.at_runs) = sym c.read_field-count.ensures.answer ∙ ap taken c.in-Value-count.is in
     let told = ap taken c.in_default-row.is in
     let runs = read_runs c.args.sheet.now c.args.s c.in-Value-count.m c.in-Value-count.at_runs in
@@ -77,7 +74,7 @@ pub loop-left-preserved : goal.loop-left-preserved
 loop-left-preserved c =
     let runs-got : (RowGot (read_runs c.args.sheet.now c.args.s c.in-Value-count.m c.in-Value-count.at_runs)
     c.loop-left.targets ((c.args.s - c.loop-left.left) * bytes) c.read_runs-row.new.targets c.in-Value-row.next) = row_got c.read_runs-row.ensures (ap taken c.in-Value-row.is) in
-    let label-got : (field c.args.sheet.now 0 rules c.loop-left.place ≡ got c.in-Value.label c.in-Value.at_count) = sym c.read_field-named.ensures.answer ∙ ap taken c.in-Value.is in
+    let label-got : (field c.args.sheet.now 0 limit c.loop-left.place ≡ got c.in-Value.label c.in-Value.at_count) = sym c.read_field-named.ensures.answer ∙ ap taken c.in-Value.is in
     let count-got : (field c.args.sheet.now 1 bytes c.in-Value.at_count ≡ got c.in-Value-count.m c.in-Value-count.at_runs) = sym c.read_field-count.ensures.answer ∙ ap taken c.in-Value-count.is in
     let g = runs-got in
     let covers = runs_cover c.args.sheet.now c.args.s c.in-Value-count.m 0 c.args.s c.in-Value-count.at_runs (omega arith) in

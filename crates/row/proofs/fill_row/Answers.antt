@@ -1,28 +1,9 @@
 -- `row::fill_row` meets its contract: the bytes below the next one are passed, and their numbers stand in the item's row.
 -- A refused step ends the row; past the last byte the row is whole. Assumes nothing.
-use Prim.Native.Nat.{◌-◌}
 use native.Mathlib.Omega.{arith}
-use mathlib.Core.Path.{◌≡◌, refl}
+use mathlib.Core.Path.{refl}
 use borrow.Author.Rules.{rules}
-use lib.ListN.{length}
-use Rattle.number.specs.Limits.{bytes}
-use Rattle.walk.specs.Walk.{row}
-use Rattle.vector.specs.Memory.{held_of}
-use Rattle.built.specs.Build.{alone}
-use Rattle.row.specs.FillLaws.{
-  Filling,
-  filling_first,
-  filling_within,
-  filling_reads,
-  filling_ready,
-  filling_stop,
-  filling_small,
-  filling_more,
-  filling_end,
-  edge_on,
-  edge_most,
-}
-use Rattle.pool.specs.Index.{Indexed}
+use Rattle.row.specs.FillLaws.{filling_first, filling_within, filling_reads, filling_ready, filling_stop, filling_small, filling_more, filling_end, edge_on, edge_most}
 use Rattle.steps.specs.CallLaws.{followed}
 use Rattle.row.proofs.fill_row.Goals as goal
 

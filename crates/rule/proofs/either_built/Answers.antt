@@ -2,7 +2,6 @@
 -- Assumes nothing.
 use native.Mathlib.Omega.{arith}
 use Rattle.rule.specs.NodeLaws.{letters_ask, letters_built}
-use borrow.Author.Rules.{rules}
 use Rattle.rule.proofs.either_built.Goals as goal
 
 pub push-third-requires : goal.push-third-requires

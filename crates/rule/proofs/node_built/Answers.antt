@@ -3,7 +3,6 @@
 use native.Mathlib.Omega.{arith}
 use Rattle.book.specs.declared.Node.TheVariants.{Nothing, Empty, Range, Cat, Alt, Star, Either, And, Not}
 use Rattle.rule.specs.NodeLaws.{node_within, node_room_lem, cat_asks, merge_asks, one_asks, node_as}
-use borrow.Author.Rules.{rules}
 use Rattle.rule.proofs.node_built.Goals as goal
 
 pub store-requires-in-Range : goal.store-requires-in-Range
@@ -24,7 +23,12 @@ star-requires c =
 pub either_built-requires : goal.either_built-requires
 either_built-requires c =
     let w = node_within c.requires (Either _) c.in-Either.is in
-    (c.requires.sound, (omega (arith, c.requires.room), w.1))
+    record {
+      sound = c.requires.sound;
+      room = omega (arith, c.requires.room);
+      first_letter_le_letter = w.1.0;
+      letter_le_last_letter = w.1.1;
+    }
 
 pub merge-requires-in-And : goal.merge-requires-in-And
 merge-requires-in-And c = merge_asks c.requires _ tt And c.in-And.is (omega arith)

@@ -2,7 +2,6 @@
 -- Assumes nothing.
 use Rattle.normal.specs.AnswerLaws.{fitted}
 use Rattle.rule.specs.NodeLaws.{node_counts}
-use borrow.Author.Rules.{rules}
 use Rattle.rule.proofs.node_term.Goals as goal
 
 pub fit-requires : goal.fit-requires

@@ -1,19 +1,11 @@
 -- `rule::rule_term` meets its contract: the rule's nodes stand at its place, each turn works off one of them, and at any time
 -- what the rest of the work makes is the rule's normal form. The measure is the number of nodes that are left. Assumes nothing.
-use Prim.Native.Nat.{ℕ, ◌+◌}
-use native.Mathlib.Omega.{arith}
-use mathlib.Core.Path.{◌≡◌, refl, sym, ap, ◌∙◌}
+use Prim.Native.Nat.{ℕ}
+use mathlib.Core.Path.{◌≡◌}
 use mathlib.Core.List.{List}
 use lib.ListN.{length}
-use borrow.Author.Rules.{rules}
-use Rattle.number.specs.Numbers.{Bytes}
-use Rattle.book.specs.Book.{takes}
-use Rattle.book.specs.Answers.{node_read}
-use Rattle.book.specs.AnswerLaws.{node_told}
 use Rattle.normal.specs.declared.Made.{Made}
-use Rattle.normal.specs.AnswerLaws.{got, long_wasted}
 use Rattle.rule.specs.Work.{RuleMade, Working, Worked}
-use Rattle.rule.specs.WorkLaws.{Step, step_read, not_refused, work_ends, step_asks, step_long, root_small, step_on, step_made, rule_works, rule_made}
 use Rattle.rule.proofs.rule_term.Given as goal
 
 -- the work that is left can be done, and what it makes is the rule's

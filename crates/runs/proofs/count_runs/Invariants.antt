@@ -1,12 +1,10 @@
 -- `runs::count_runs` meets its contract. The loop's invariant: the runs counted and those that are left are the row's.
 -- The measure is what is left of the row. Assumes nothing.
 use Prim.Native.Nat.{◌+◌, ◌-◌, ◌≤◌}
-use native.Mathlib.Omega.{arith}
-use mathlib.Core.Path.{◌≡◌, ap}
+use mathlib.Core.Path.{◌≡◌}
 use lib.ListN.{length}
 use lib.Seq.{slice}
 use Rattle.table.specs.Sheet.{runs_of}
-use Rattle.runs.specs.RowLaws.{runs_none, runs_some, part_few}
 use Rattle.runs.proofs.count_runs.Given as goal
 
 abbrev pub invariant-loop-start : goal.invariant-loop-start

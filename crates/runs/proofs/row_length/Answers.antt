@@ -1,7 +1,6 @@
 -- `runs::row_length` meets its contract: a row is its count of runs, and the runs.
 -- Assumes nothing.
 use native.Mathlib.Omega.{arith}
-use borrow.Author.Rules.{rules}
 use lib.Seq.{slice}
 use Rattle.number.specs.NumberLaws.{width_most}
 use Rattle.runs.specs.RowLaws.{row_is, part_few, part_short}

@@ -1,11 +1,9 @@
 -- `runs::run_end` meets its contract. The loop's invariant: the row from `from` up to i leads to one target.
 -- The measure is how much of the row is left. Assumes nothing.
-use Prim.Native.Nat.{◌-◌}
 use native.Mathlib.Omega.{arith}
-use mathlib.Core.Path.{◌≡◌, refl, sym, ◌∙◌}
-use borrow.Author.Rules.{rules}
+use mathlib.Core.Path.{refl, sym, ◌∙◌}
 use lib.ListN.{get_or}
-use Rattle.runs.specs.RowLaws.{Along, along_start, along_more, along_stop, along_end, along_other}
+use Rattle.runs.specs.RowLaws.{along_start, along_more, along_stop, along_end, along_other}
 use Rattle.runs.proofs.run_end.Goals as goal
 
 pub loop-i-init : goal.loop-i-init

@@ -1,12 +1,10 @@
 -- `runs::runs_length` meets its contract. The loop's invariant: the bytes counted and those of the runs that are left are the row's.
 -- The measure is what is left of the row. Assumes nothing.
-use Prim.Native.Nat.{◌+◌, ◌-◌, ◌*◌, ◌≤◌}
-use native.Mathlib.Omega.{arith}
-use mathlib.Core.Path.{◌≡◌, ap}
+use Prim.Native.Nat.{◌+◌, ◌-◌, ◌≤◌}
+use mathlib.Core.Path.{◌≡◌}
 use lib.ListN.{length}
 use lib.Seq.{slice}
 use Rattle.table.specs.Sheet.{runs_of, write_runs}
-use Rattle.runs.specs.RowLaws.{part_none, part_some, part_short}
 use Rattle.runs.proofs.runs_length.Given as goal
 
 abbrev pub invariant-loop-start : goal.invariant-loop-start

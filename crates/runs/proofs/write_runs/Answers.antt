@@ -1,14 +1,11 @@
 -- `runs::write_runs` meets its contract. The loop's invariant: there is room for the runs that are left, and with them the row's are written.
 -- The measure is what is left of the row. Assumes nothing.
-use Prim.Native.Nat.{ℕ, ◌+◌, ◌-◌, ◌≤◌}
+use Prim.Native.Nat.{◌-◌}
 use native.Mathlib.Omega.{arith}
-use mathlib.Core.Path.{◌≡◌, refl}
-use mathlib.Core.List.{List}
-use lib.ListN.{length, get_or}
-use lib.Seq.{slice}
+use mathlib.Core.Path.{refl}
+use lib.ListN.{get_or}
 use Rattle.number.specs.Numbers.{write_number}
 use Rattle.number.specs.Lists.{Writes}
-use Rattle.table.specs.Sheet.{runs_of, write_runs}
 use Rattle.runs.specs.RowLaws.{part_some, runs_written_none, runs_written}
 use Rattle.runs.proofs.write_runs.Goals as goal
 

@@ -1,7 +1,6 @@
 -- `shown::show` meets its contract: the items agree, or the first that does not is shown by its text.
 -- Assumes nothing.
 use native.Mathlib.Omega.{arith}
-use borrow.Author.Rules.{rules}
 use Rattle.shown.specs.ShowLaws.{traced_less, shows_same, shows_inside, shows_differs}
 use Rattle.shown.proofs.show.Goals as goal
 

@@ -1,7 +1,7 @@
 -- `shown::write_text` meets its contract. The loop's invariant: the area lacks the text of the item that was reached, and only that.
 -- The measure is the item's number, since each was found from a lower one. Assumes nothing.
 use native.Mathlib.Omega.{arith}
-use Rattle.shown.specs.ShowLaws.{Lacks, lacks_all, lacks_none, lacks_place, lacks_next}
+use Rattle.shown.specs.ShowLaws.{lacks_all, lacks_none, lacks_place, lacks_next}
 use Rattle.shown.proofs.write_text.Goals as goal
 
 pub text_length-len-requires : goal.text_length-len-requires

@@ -1,7 +1,6 @@
 -- `shown::write_text` meets its contract. The loop's invariant: the area lacks the text of the item that was reached, and only that.
 -- The measure is the item's number, since each was found from a lower one. Assumes nothing.
-use native.Mathlib.Omega.{arith}
-use Rattle.shown.specs.ShowLaws.{Lacks, lacks_all, lacks_none, lacks_place, lacks_next}
+use Rattle.shown.specs.ShowLaws.{Lacks}
 use Rattle.shown.proofs.write_text.Given as goal
 
 abbrev pub invariant-loop-item : goal.invariant-loop-item

@@ -1,16 +1,11 @@
 -- `start::add_rules` meets its contract: so far the terms of the first rules are in the pool, each with its parts, behind those before.
 -- A rule that is too long ends it; past the last rule the whole vector is there. Assumes nothing.
-use Prim.Native.Nat.{◌-◌}
 use native.Mathlib.Omega.{arith}
 use mathlib.Core.Path.{◌≡◌, refl}
 use borrow.Author.Rules.{rules}
-use lib.ListN.{length}
 use Rattle.meaning.specs.Tests.{clash}
 use Rattle.normal.specs.AnswerLaws.{got}
-use Rattle.walk.specs.Vectors.{normalised}
-use Rattle.vector.specs.Vectors.{vector_of}
-use Rattle.start.specs.Start.{rules_in, fronts}
-use Rattle.start.specs.StartLaws.{Begun, begun_first, rule_has, rule_room, rule_long, rule_puts, rule_more, begun_last}
+use Rattle.start.specs.StartLaws.{begun_first, rule_has, rule_room, rule_long, rule_puts, rule_more, begun_last}
 use Rattle.start.proofs.add_rules.Goals as goal
 
 pub loop-i-init : goal.loop-i-init

@@ -2,7 +2,6 @@
 -- Assumes nothing.
 use native.Mathlib.Omega.{arith}
 use mathlib.Core.Path.{refl}
-use borrow.Author.Rules.{rules}
 use lib.ListN.{length-set}
 use Rattle.vector.specs.Layout.{nothing_cell}
 use Rattle.pool.specs.IndexLaws.{indexed_same}

@@ -2,7 +2,6 @@
 -- Assumes nothing.
 use native.Mathlib.Omega.{arith}
 use Rattle.steps.specs.AnswerLaws.{begins_over, begins_held, begun_index}
-use borrow.Author.Rules.{rules}
 use Rattle.steps.proofs.hold_first.Goals as goal
 
 pub returns-then-top-gt-POOL : goal.returns-then-top-gt-POOL

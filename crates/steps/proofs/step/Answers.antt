@@ -2,7 +2,6 @@
 -- Assumes nothing.
 use native.Mathlib.Omega.{arith}
 use Rattle.steps.specs.AnswerLaws.{answer_long, answer_held, index_held, answer_full, answer_pool, answer_new, index_new}
-use borrow.Author.Rules.{rules}
 use Rattle.steps.proofs.step.Goals as goal
 
 pub load-v-requires : goal.load-v-requires

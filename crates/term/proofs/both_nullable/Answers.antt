@@ -1,7 +1,6 @@
 -- `term::both_nullable` meets its contract: the first side decides, or the second.
 -- Assumes nothing.
 use mathlib.Core.Path.{sym, ◌∙◌}
-use borrow.Author.Rules.{rules}
 use Rattle.term.proofs.both_nullable.Goals as goal
 
 pub returns-then-nullable : goal.returns-then-nullable

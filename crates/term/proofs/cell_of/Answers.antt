@@ -4,7 +4,6 @@ use native.Mathlib.Omega.{arith}
 use Rattle.term.specs.Nodes.{cell_of}
 use Rattle.term.specs.CellLaws.{bit_small}
 use Rattle.term.specs.ReadLaws.{kind_most}
-use borrow.Author.Rules.{rules}
 use Rattle.term.proofs.cell_of.Goals as goal
 
 pub pack-requires : goal.pack-requires

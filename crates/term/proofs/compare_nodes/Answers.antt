@@ -2,7 +2,6 @@
 -- Assumes nothing.
 use native.Mathlib.Omega.{arith}
 use mathlib.Core.Path.{◌≡◌, sym, ◌∙◌}
-use borrow.Author.Rules.{rules}
 use Rattle.term.specs.Nodes.{kind_of, Found}
 use Rattle.term.specs.CellLaws.{found}
 use Rattle.term.specs.ReadLaws.{order_one, order_less, order_more, order_leaf}

@@ -4,7 +4,6 @@ use Prim.Native.Nat.{Ordering}
 use Prim.Native.Nat.{compare}
 use mathlib.Core.Path.{◌≡◌, sym, ap, ◌∙◌}
 use Rattle.term.specs.Nodes.{ordering}
-use borrow.Author.Rules.{rules}
 use Rattle.term.proofs.compare_pairs.Goals as goal
 
 pub returns-in-Less : goal.returns-in-Less

@@ -1,6 +1,5 @@
 -- `term::compare_terms` meets its contract: a look at the two nodes tells the order, or their parts do.
 -- Assumes nothing.
-use borrow.Author.Rules.{rules}
 use Rattle.term.specs.CompareLaws.{told}
 use Rattle.term.proofs.compare_terms.Goals as goal
 

@@ -4,7 +4,6 @@ use native.Mathlib.Omega.{arith}
 use mathlib.Core.Path.{ap}
 use lib.ListN.{set}
 use Rattle.term.specs.CellLaws.{below_fields, held}
-use borrow.Author.Rules.{rules}
 use Rattle.term.proofs.hold.Goals as goal
 
 pub node_nullable-empty-requires : goal.node_nullable-empty-requires

@@ -4,7 +4,6 @@ use Prim.Native.Nat.{◌<◌}
 use native.Mathlib.Omega.{arith}
 use mathlib.Core.Path.{◌≡◌, sym, ◌∙◌}
 use lib.ListN.{get_or}
-use borrow.Author.Rules.{rules}
 use Rattle.term.specs.Cells.{node_of}
 use Rattle.term.specs.Nodes.{arity_of}
 use Rattle.term.specs.Counts.{Countable, Counting}

@@ -1,7 +1,6 @@
 -- `term::link_at` meets its contract: the cell's link is what `link_of` takes out of it.
 -- Assumes nothing.
 use mathlib.Core.Path.{refl}
-use borrow.Author.Rules.{rules}
 use Rattle.term.specs.Cells.{link_of}
 use Rattle.term.proofs.link_at.Goals as goal
 

@@ -5,7 +5,6 @@ use mathlib.Core.Bool.{not}
 use Rattle.term.specs.CellLaws.{over_children}
 use Rattle.term.specs.ReadLaws.{nothing_null, empty_null, range_null, star_null, cat_null, alt_null_on, alt_null_off, and_null, not_null}
 use Rattle.term.specs.declared.Term.TheVariants.{Cat, Alt, And, Not}
-use borrow.Author.Rules.{rules}
 use Rattle.term.proofs.node_nullable.Goals as goal
 
 pub both_nullable-requires : goal.both_nullable-requires

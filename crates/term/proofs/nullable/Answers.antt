@@ -1,7 +1,6 @@
 -- `term::nullable` meets its contract: in a sound area the cell's bit tells it.
 -- Assumes nothing.
 use native.Mathlib.Omega.{arith}
-use borrow.Author.Rules.{rules}
 use Rattle.term.specs.Cells.{empty_of}
 use Rattle.term.proofs.nullable.Goals as goal
 

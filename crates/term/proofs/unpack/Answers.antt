@@ -1,6 +1,5 @@
 -- `term::unpack` meets its contract: the node of a cell is that of its kind over its fields.
 -- Assumes nothing.
-use borrow.Author.Rules.{rules}
 use Rattle.term.specs.Cells.{node_of}
 use Rattle.term.proofs.unpack.Goals as goal
 

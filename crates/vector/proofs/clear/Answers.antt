@@ -1,12 +1,11 @@
 -- `vector::clear` meets its contract: so far the cells at the front are 0, and the others as they were.
 -- Assumes nothing.
-use Prim.Native.Nat.{◌-◌, ◌≤◌}
 use native.Mathlib.Omega.{arith}
 use mathlib.Core.Path.{◌≡◌, refl, ap, ◌∙◌}
-use mathlib.Core.List.{◌++◌, append-nil}
+use mathlib.Core.List.{append-nil}
 use borrow.Author.Fill.{fill_none, fill_more}
 use borrow.Author.Rules.{rules}
-use lib.ListN.{length, set, drop, replicate}
+use lib.ListN.{length, set}
 use lib.Seq.{drop-length}
 use Rattle.vector.proofs.clear.Goals as goal
 

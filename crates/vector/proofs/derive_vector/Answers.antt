@@ -1,15 +1,14 @@
 -- `derive_vector` derives a vector place by place: so far the first places are done, in a pool that holds their terms.
 -- A place that is too long ends it; past the last rule the whole vector is done.
-use Prim.Native.Nat.{◌-◌}
 use native.Mathlib.Omega.{arith}
 use mathlib.Core.Path.{◌≡◌, refl}
-use borrow.Author.Rules.{rules}
-use lib.ListN.{length, length-replicate, get_or-replicate, replicate}
+use borrow.Author.Rules.{rules as steps}
+use lib.ListN.{length-replicate, get_or-replicate, replicate}
 use Rattle.number.specs.Limits.{rules}
 use Rattle.meaning.specs.Tests.{clash}
 use Rattle.normal.specs.AnswerLaws.{got}
 use Rattle.vector.specs.Layout.{nothing_cell}
-use Rattle.vector.specs.DeriveLaws.{Going, going_first, place_derives, place_spared, place_long, place_puts, place_more}
+use Rattle.vector.specs.DeriveLaws.{going_first, place_derives, place_spared, place_long, place_puts, place_more}
 use Rattle.vector.proofs.derive_vector.Goals as goal
 
 pub loop-i-init : goal.loop-i-init
@@ -39,7 +38,7 @@ put_term-placed-requires c =
 
 pub loop-i-preserved : goal.loop-i-preserved
 loop-i-preserved c = (
-  search rules,
+  search steps,
   place_more c.requires c.loop-i.invariant.1 (omega arith) (got c.derive.ensures c.in-Term.is)
       c.put_term-placed.ensures,
 )

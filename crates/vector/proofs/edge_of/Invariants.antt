@@ -1,13 +1,10 @@
 -- `edge_of` works out a vector's next edge: so far the least of the edges of the terms passed.
 -- Past the last rule it is the least of all.
 use Prim.Native.Nat.{◌≤◌, ◌-◌}
-use native.Mathlib.Omega.{arith}
 use mathlib.Core.Path.{◌≡◌}
-use mathlib.Core.Logic.{⊎_elim}
-use borrow.Author.Rules.{rules}
 use lib.ListN.{length}
 use Rattle.number.specs.Limits.{rules}
-use Rattle.vector.specs.PlaceLaws.{Least, least_first, least_new, least_old, least_last}
+use Rattle.vector.specs.PlaceLaws.{Least}
 use Rattle.vector.proofs.edge_of.Given as goal
 
 abbrev pub invariant-loop-i : goal.invariant-loop-i

@@ -1,10 +1,6 @@
 -- `find` looks for an item: so far no item passed has this sheet state and these numbers.
 -- The first that has ends it; past the last there is none.
 use Prim.Native.Nat.{ℕ, ◌≤◌, ◌<◌, ◌-◌}
-use native.Mathlib.Omega.{arith}
-use borrow.Author.Rules.{rules}
-use borrow.Author.Count.{below_more}
-use Rattle.meaning.specs.Tests.{clash}
 use Rattle.vector.specs.Promises.{IsPair}
 use Rattle.vector.proofs.find.Given as goal
 

@@ -2,7 +2,6 @@
 -- Either test that fails shows that the item is another.
 use mathlib.Core.Path.{refl, sym, ◌∙◌}
 use Rattle.meaning.specs.Tests.{clash}
-use borrow.Author.Rules.{rules}
 use Rattle.vector.proofs.is_pair.Goals as goal
 
 pub returns-then-cells-k : goal.returns-then-cells-k

@@ -1,18 +1,16 @@
 -- `label_of` works out the label of a part of a vector: so far no term passed matches the empty text, so the label is that of what remains.
 -- The first that matches ends it; past the last rule there is none.
-use Prim.Native.Nat.{◌+◌, ◌-◌, ◌≤◌}
+use Prim.Native.Nat.{◌+◌, ◌-◌}
 use mathlib.Core.Path.{◌≡◌}
 use native.Mathlib.Omega.{arith}
-use borrow.Author.Rules.{rules}
-use lib.ListN.{length}
-use Rattle.number.specs.Limits.{rules}
-use Rattle.vector.specs.PlaceLaws.{LabelLeft, label_first, label_found, label_next, label_none}
+use borrow.Author.Rules.{rules as steps}
+use Rattle.vector.specs.PlaceLaws.{label_first, label_found, label_next, label_none}
 use Rattle.vector.proofs.label_of.Goals as goal
 
 pub loop-left-init : goal.loop-left-init
 loop-left-init c =
     let e : c.args.to - (c.args.to - c.args.from) ≡ c.args.from = omega arith in
-    (search rules, search rules, rw e (label_first c.args.cells.now c.args.from c.args.to c.args.v.at))
+    (search steps, search steps, rw e (label_first c.args.cells.now c.args.from c.args.to c.args.v.at))
 
 pub nullable-requires : goal.nullable-requires
 nullable-requires c =
@@ -25,8 +23,8 @@ returns-then-nullable c =
 pub loop-left-preserved : goal.loop-left-preserved
 loop-left-preserved c =
     let e : c.args.to - c.loop-left.left + 1 ≡ c.args.to - (c.loop-left.left - 1) = omega arith in (
-      search rules,
-      search rules,
+      search steps,
+      search steps,
       rw e at (label_next c.args.cells.now c.args.from c.args.to c.args.v.at c.requires.reads (c.args.to - c.loop-left.left) _ (omega arith) c.loop-left.invariant.2 c.nullable.ensures c.if-nullable.false (omega arith)),
     )
 

@@ -1,12 +1,10 @@
 -- `label_of` works out the label of a part of a vector: so far no term passed matches the empty text, so the label is that of what remains.
 -- The first that matches ends it; past the last rule there is none.
-use Prim.Native.Nat.{◌+◌, ◌-◌, ◌≤◌}
+use Prim.Native.Nat.{◌-◌, ◌≤◌}
 use mathlib.Core.Path.{◌≡◌}
-use native.Mathlib.Omega.{arith}
-use borrow.Author.Rules.{rules}
 use lib.ListN.{length}
 use Rattle.number.specs.Limits.{rules}
-use Rattle.vector.specs.PlaceLaws.{LabelLeft, label_first, label_found, label_next, label_none}
+use Rattle.vector.specs.PlaceLaws.{LabelLeft}
 use Rattle.vector.proofs.label_of.Given as goal
 
 abbrev pub invariant-loop-left : goal.invariant-loop-left

@@ -1,10 +1,9 @@
 -- `load` reads the vector of an item: so far the places passed are those of memory.
 -- All 32 passed, the vector is the item's.
-use Prim.Native.Nat.{◌+◌, ◌*◌, ◌-◌, ◌≤◌}
+use Prim.Native.Nat.{◌+◌, ◌*◌}
 use mathlib.Core.Path.{◌≡◌, sym, ◌∙◌}
 use native.Mathlib.Omega.{arith}
-use borrow.Author.Rules.{rules}
-use lib.ListN.{length, take, drop}
+use borrow.Author.Rules.{rules as steps}
 use lib.Seq.{take_all}
 use Rattle.number.specs.Limits.{rules}
 use Rattle.vector.specs.Layout.{vectors_at}
@@ -13,8 +12,8 @@ use Rattle.vector.proofs.load.Goals as goal
 
 pub loop-i-preserved : goal.loop-i-preserved
 loop-i-preserved c = (
-  search rules,
-  search rules,
+  search steps,
+  search steps,
   copied_more c.loop-i.to c.args.cells.now (vectors_at + c.args.k * rules) c.loop-i.i (omega arith) (omega arith) c.loop-i.invariant.2,
 )
 

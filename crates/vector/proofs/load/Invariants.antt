@@ -1,14 +1,10 @@
 -- `load` reads the vector of an item: so far the places passed are those of memory.
 -- All 32 passed, the vector is the item's.
 use Prim.Native.Nat.{◌+◌, ◌*◌, ◌-◌, ◌≤◌}
-use mathlib.Core.Path.{◌≡◌, sym, ◌∙◌}
-use native.Mathlib.Omega.{arith}
-use borrow.Author.Rules.{rules}
+use mathlib.Core.Path.{◌≡◌}
 use lib.ListN.{length, take, drop}
-use lib.Seq.{take_all}
 use Rattle.number.specs.Limits.{rules}
 use Rattle.vector.specs.Layout.{vectors_at}
-use Rattle.vector.specs.PlaceLaws.{copied_more}
 use Rattle.vector.proofs.load.Given as goal
 
 abbrev pub invariant-loop-i : goal.invariant-loop-i

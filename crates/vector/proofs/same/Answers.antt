@@ -1,14 +1,13 @@
 -- `same` tells whether two vectors are equal: so far every place passed has the same number in both.
 -- A place that differs shows that the vectors do.
-use Prim.Native.Nat.{ℕ, ◌-◌, ◌≤◌, ◌<◌}
-use mathlib.Core.Path.{◌≡◌, refl, ap}
+use Prim.Native.Nat.{ℕ}
+use mathlib.Core.Path.{refl, ap}
 use native.Mathlib.Omega.{arith}
-use borrow.Author.Rules.{rules}
+use borrow.Author.Rules.{rules as steps}
 use mathlib.Core.List.{List}
 use borrow.Author.Count.{below_more}
-use lib.ListN.{length, get_or}
+use lib.ListN.{get_or}
 use lib.Seq.{ext_get_or}
-use Rattle.number.specs.Limits.{rules}
 use Rattle.meaning.specs.Tests.{clash}
 use Rattle.vector.proofs.same.Goals as goal
 
@@ -20,7 +19,7 @@ returns-then-x-place c =
     }
 
 pub loop-place-preserved : goal.loop-place-preserved
-loop-place-preserved c = (search rules, search rules, search rules, below_more _ _ c.loop-place.invariant.3 c.if-x-place.false)
+loop-place-preserved c = (search steps, search steps, search steps, below_more _ _ c.loop-place.invariant.3 c.if-x-place.false)
 
 pub returns : goal.returns
 returns c =

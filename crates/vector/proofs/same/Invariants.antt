@@ -1,15 +1,9 @@
 -- `same` tells whether two vectors are equal: so far every place passed has the same number in both.
 -- A place that differs shows that the vectors do.
 use Prim.Native.Nat.{ℕ, ◌-◌, ◌≤◌, ◌<◌}
-use mathlib.Core.Path.{◌≡◌, refl, ap}
-use native.Mathlib.Omega.{arith}
-use borrow.Author.Rules.{rules}
-use mathlib.Core.List.{List}
-use borrow.Author.Count.{below_more}
+use mathlib.Core.Path.{◌≡◌}
 use lib.ListN.{length, get_or}
-use lib.Seq.{ext_get_or}
 use Rattle.number.specs.Limits.{rules}
-use Rattle.meaning.specs.Tests.{clash}
 use Rattle.vector.proofs.same.Given as goal
 
 abbrev pub invariant-loop-place : goal.invariant-loop-place

@@ -1,21 +1,20 @@
 -- `store` puts a vector where its item has it: so far the places passed are written, and nothing else is.
 -- All 32 passed, the whole vector stands there.
-use Prim.Native.Nat.{◌+◌, ◌*◌, ◌-◌, ◌≤◌}
+use Prim.Native.Nat.{◌+◌, ◌*◌}
 use mathlib.Core.Path.{◌≡◌, refl}
 use native.Mathlib.Omega.{arith}
-use borrow.Author.Rules.{rules}
-use lib.ListN.{length}
-use lib.Seq.{paste, paste-zero}
+use borrow.Author.Rules.{rules as steps}
+use lib.Seq.{paste-zero}
 use Rattle.number.specs.Limits.{rules}
 use Rattle.vector.specs.Layout.{vectors_at}
 use Rattle.vector.specs.PlaceLaws.{pasted_more}
 use Rattle.vector.proofs.store.Goals as goal
 
 pub loop-i-init : goal.loop-i-init
-loop-i-init c = (search rules, search rules, refl, paste-zero c.args.cells.now (vectors_at + c.args.k * rules) c.args.v.at)
+loop-i-init c = (search steps, search steps, refl, paste-zero c.args.cells.now (vectors_at + c.args.k * rules) c.args.v.at)
 
 pub loop-i-preserved : goal.loop-i-preserved
-loop-i-preserved c = (search rules, search rules, search rules, pasted_more _ _ _ _ _ (omega arith) (omega arith) c.loop-i.invariant.3)
+loop-i-preserved c = (search steps, search steps, search steps, pasted_more _ _ _ _ _ (omega arith) (omega arith) c.loop-i.invariant.3)
 
 pub returns : goal.returns
 returns c =

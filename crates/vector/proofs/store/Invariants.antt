@@ -1,14 +1,11 @@
 -- `store` puts a vector where its item has it: so far the places passed are written, and nothing else is.
 -- All 32 passed, the whole vector stands there.
 use Prim.Native.Nat.{◌+◌, ◌*◌, ◌-◌, ◌≤◌}
-use mathlib.Core.Path.{◌≡◌, refl}
-use native.Mathlib.Omega.{arith}
-use borrow.Author.Rules.{rules}
+use mathlib.Core.Path.{◌≡◌}
 use lib.ListN.{length}
-use lib.Seq.{paste, paste-zero}
+use lib.Seq.{paste}
 use Rattle.number.specs.Limits.{rules}
 use Rattle.vector.specs.Layout.{vectors_at}
-use Rattle.vector.specs.PlaceLaws.{pasted_more}
 use Rattle.vector.proofs.store.Given as goal
 
 abbrev pub invariant-loop-i : goal.invariant-loop-i

@@ -2,7 +2,6 @@
 -- Assumes nothing.
 use Prim.Native.Nat.{◌*◌}
 use native.Mathlib.Omega.{arith}
-use borrow.Author.Rules.{rules}
 use lib.ListN.{take}
 use Rattle.number.specs.Limits.{sheet_version, bytes}
 use Rattle.number.specs.NumberLaws.{width_most}

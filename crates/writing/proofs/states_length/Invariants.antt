@@ -1,13 +1,11 @@
 -- `writing::states_length` meets its contract. The loop's invariant: the bytes counted and those of the states that are left are what was asked.
 -- The measure is how many states are left. Assumes nothing.
 use Prim.Native.Nat.{◌+◌, ◌-◌, ◌*◌, ◌≤◌}
-use native.Mathlib.Omega.{arith}
-use mathlib.Core.Path.{◌≡◌, ap}
+use mathlib.Core.Path.{◌≡◌}
 use lib.ListN.{length}
 use lib.Seq.{slice}
 use Rattle.number.specs.Limits.{bytes}
 use Rattle.table.specs.Sheet.{write_states}
-use Rattle.writing.specs.WritingLaws.{states_end, states_some, part_states_short}
 use Rattle.writing.proofs.states_length.Given as goal
 
 abbrev pub invariant-loop-state : goal.invariant-loop-state

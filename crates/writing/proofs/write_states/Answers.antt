@@ -1,9 +1,8 @@
 -- `writing::write_states` meets its contract. The loop's invariant: there is room for the states that are left, and with them all are written.
 -- The measure is how many states are left. Assumes nothing.
-use Prim.Native.Nat.{ℕ, ◌+◌, ◌-◌, ◌*◌, ◌≤◌}
+use Prim.Native.Nat.{◌+◌, ◌*◌}
 use native.Mathlib.Omega.{arith}
 use mathlib.Core.Path.{◌≡◌, refl}
-use mathlib.Core.List.{List}
 use lib.ListN.{length, get_or}
 use lib.Seq.{slice}
 use Rattle.number.specs.Limits.{bytes}

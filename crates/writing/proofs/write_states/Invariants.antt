@@ -1,16 +1,13 @@
 -- `writing::write_states` meets its contract. The loop's invariant: there is room for the states that are left, and with them all are written.
 -- The measure is how many states are left. Assumes nothing.
 use Prim.Native.Nat.{ℕ, ◌+◌, ◌-◌, ◌*◌, ◌≤◌}
-use native.Mathlib.Omega.{arith}
-use mathlib.Core.Path.{◌≡◌, refl}
+use mathlib.Core.Path.{◌≡◌}
 use mathlib.Core.List.{List}
-use lib.ListN.{length, get_or}
+use lib.ListN.{length}
 use lib.Seq.{slice}
 use Rattle.number.specs.Limits.{bytes}
-use Rattle.number.specs.Numbers.{write_number}
 use Rattle.number.specs.Lists.{Writes}
-use Rattle.table.specs.Sheet.{write_row, write_states}
-use Rattle.writing.specs.WritingLaws.{states_some, states_written_none, states_written}
+use Rattle.table.specs.Sheet.{write_states}
 use Rattle.writing.proofs.write_states.Given as goal
 
 abbrev pub invariant-loop-state : goal.invariant-loop-state
