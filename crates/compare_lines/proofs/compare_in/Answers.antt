@@ -6,7 +6,6 @@ use Rattle.book.specs.Calls.{checked}
 use Rattle.programs.specs.PrintLaws.{writes_as}
 use Rattle.programs.specs.StandLaws.{load_refused, load_gave}
 use Rattle.compare_lines.specs.ToldLinesLaws.{compare_holds, files_no_book, files_no_sheet, files_both}
-use borrow.Author.Rules.{rules}
 use Rattle.compare_lines.proofs.compare_in.Goals as goal
 
 pub put_answer-requires : goal.put_answer-requires

@@ -2,7 +2,6 @@
 -- Assumes nothing.
 use native.Mathlib.Omega.{arith}
 use Rattle.programs.specs.PrintLaws.{writes_as, compare_no_book, compare_no_sheet, compare_both}
-use borrow.Author.Rules.{rules}
 use Rattle.compare_lines.proofs.compare_lines.Goals as goal
 
 pub returns-then-book-gt-BOOK_FILE : goal.returns-then-book-gt-BOOK_FILE

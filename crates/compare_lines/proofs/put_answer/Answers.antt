@@ -2,8 +2,7 @@
 -- Assumes nothing.
 use native.Mathlib.Omega.{arith}
 use mathlib.Core.Path.{refl}
-use Rattle.compare_lines.specs.ToldLinesLaws.{told_as, told_inside, told_part, told_differs}
-use borrow.Author.Rules.{rules}
+use Rattle.compare_lines.specs.ToldLinesLaws.{told_as, told_part, told_differs}
 use Rattle.compare_lines.proofs.put_answer.Goals as goal
 
 pub put_hex_line-requires : goal.put_hex_line-requires

@@ -6,7 +6,6 @@ use Rattle.programs.specs.Print.{cut_built}
 use Rattle.programs.specs.PrintLaws.{cut_no_book, cut_no_text, cut_both}
 use Rattle.programs.specs.StandLaws.{build_refused, build_gave}
 use Rattle.cut_lines.specs.PartLaws.{begins_told, begins_states}
-use borrow.Author.Rules.{rules}
 use Rattle.cut_lines.proofs.begin.Goals as goal
 
 pub returns-then-book-gt-BOOK_FILE : goal.returns-then-book-gt-BOOK_FILE

@@ -6,7 +6,6 @@ use lib.ListN.{length}
 use Rattle.cutting.specs.Flat.{record_cells}
 use Rattle.turns.specs.Turned.{kind_by}
 use Rattle.cut_lines.specs.PartLaws.{turn_goes}
-use borrow.Author.Rules.{rules}
 use Rattle.cut_lines.proofs.next_part.Goals as goal
 
 pub returns : goal.returns

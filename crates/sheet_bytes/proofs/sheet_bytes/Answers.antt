@@ -3,7 +3,6 @@
 use mathlib.Core.Path.{sym}
 use Rattle.programs.specs.PrintLaws.{sheet_no_book, sheet_whole}
 use Rattle.sheet_bytes.specs.PutLaws.{puts_as}
-use borrow.Author.Rules.{rules}
 use Rattle.sheet_bytes.proofs.sheet_bytes.Goals as goal
 
 pub returns-then-book-gt-BOOK_FILE : goal.returns-then-book-gt-BOOK_FILE

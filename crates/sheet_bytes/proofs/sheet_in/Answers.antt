@@ -3,7 +3,6 @@
 use native.Mathlib.Omega.{arith}
 use Rattle.programs.specs.StandLaws.{build_refused, build_gave}
 use Rattle.sheet_bytes.specs.PutLaws.{puts_as, sheet_refused, puts_sheet, never_unwritten}
-use borrow.Author.Rules.{rules}
 use Rattle.sheet_bytes.proofs.sheet_in.Goals as goal
 
 pub returns-in-Refused : goal.returns-in-Refused

@@ -9,7 +9,6 @@ use Rattle.cutting.specs.Cut.Ending.{Done, StuckAt, FullAt}
 use Rattle.cutting.specs.Flat.{record_cells}
 use Rattle.turns.specs.Turned.{kind_by, turn_of}
 use Rattle.turns.specs.TurnedLaws.{Came, came, came_not, turn_done, turn_stuck, turn_full, turn_refused}
-use borrow.Author.Rules.{rules}
 use Rattle.turns.proofs.cut_turn.Goals as goal
 
 pub put_words-next-requires : goal.put_words-next-requires

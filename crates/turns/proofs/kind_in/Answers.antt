@@ -5,7 +5,6 @@ use Rattle.number.specs.Refused.{Outcome}
 use Rattle.book.specs.declared.RuleKind.{RuleKind}
 use Rattle.book.specs.Calls.{Told, kind_told}
 use Rattle.programs.specs.Output.{kind_number}
-use borrow.Author.Rules.{rules}
 use Rattle.turns.proofs.kind_in.Goals as goal
 
 tell : {r q : RuleKind} {x : Outcome Told} → kind_told r ≡ x → r ≡ q → kind_number (kind_told q) ≡ kind_number x

@@ -1,11 +1,9 @@
 -- `turns::look_up` meets its contract. The loop's invariant: the kinds below i are the book's.
 -- The measure is how many are left. Assumes nothing.
-use Prim.Native.Nat.{ℕ, ◌-◌, ◌<◌, ◌≤◌}
 use native.Mathlib.Omega.{arith}
-use mathlib.Core.Path.{◌≡◌, refl}
-use lib.ListN.{length, get_or, length-set}
+use mathlib.Core.Path.{refl}
+use lib.ListN.{length-set}
 use borrow.Author.Rules.{rules}
-use Rattle.programs.specs.Output.{kind_in}
 use Rattle.turns.specs.TurnedLaws.{kinds_more}
 use Rattle.turns.proofs.look_up.Goals as goal
 

@@ -1,16 +1,12 @@
 -- `turns::put_words` meets its contract: each turn puts the line of one record, and those of the others are left.
 -- The measure is how many records are left. Assumes nothing.
-use Prim.Native.Nat.{suc, ◌+◌, ◌-◌, ◌*◌, ◌≤◌}
-use native.Mathlib.Nat.{sub-zero}
-use native.Mathlib.Omega.{arith}
-use mathlib.Core.Path.{◌≡◌, refl}
+use Prim.Native.Nat.{◌-◌, ◌*◌, ◌≤◌}
+use mathlib.Core.Path.{◌≡◌}
 use lib.ListN.{length, drop}
 use Rattle.cutting.specs.Flat.{record_cells}
 use Rattle.lines.specs.Lines.{line_room}
 use Rattle.lines.specs.LineLaws.{Leads}
 use Rattle.turns.specs.Turned.{kind_by, cell_lines}
-use Rattle.turns.specs.TurnedLaws.{lines_none, lines_more}
-use borrow.Author.Rules.{rules}
 use Rattle.turns.proofs.put_words.Given as goal
 
 abbrev pub invariant-loop-k : goal.invariant-loop-k
