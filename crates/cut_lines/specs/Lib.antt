@@ -3,5 +3,3 @@
 pub mod Rest
 pub mod Parts
 pub mod RestLaws
-pub mod PartLaws
-pub mod Main

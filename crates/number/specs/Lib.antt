@@ -10,9 +10,6 @@ pub mod Lists
 pub mod Promises
 pub mod Branch
 pub mod RowLaws
-pub mod NumberLaws
-pub mod FaultLaws
 pub mod Quoted
 pub mod Sample
 pub mod MainLaws
-pub mod Main

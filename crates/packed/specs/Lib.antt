@@ -2,4 +2,3 @@
 -- Unpacked says how it is read back, and Main that nothing is lost on the way.
 pub mod Packed
 pub mod Unpacked
-pub mod Main

@@ -4,8 +4,3 @@ pub mod Output
 pub mod Print
 pub mod StandLaws
 pub mod PrintLaws
-pub mod Sample
-pub mod Prints
-pub mod FileLaws
-pub mod MainLaws
-pub mod Main

@@ -11,13 +11,5 @@ pub mod Promises
 pub mod SheetFormed
 pub mod SheetRuns
 pub mod SheetLaws
-pub mod SheetBytes
-pub mod SheetLongest
-pub mod SheetCalls
-pub mod AreaLaws
 pub mod TableLaws
 pub mod FillLaws
-pub mod SheetReaders
-pub mod FaultLaws
-pub mod SampleLaws
-pub mod Main

@@ -13,17 +13,8 @@ pub mod Classes
 pub mod Worked
 pub mod TestLaws
 pub mod ScanLaws
-pub mod SpelledIsRead
-pub mod ReadIsSpelled
-pub mod Completes
-pub mod LineLaws
-pub mod WrongLaws
 pub mod NewlineLaws
 pub mod ClassLaws
 pub mod PostfixLaws
 pub mod CallLaws
 pub mod AnswerLaws
-pub mod RangeLaws
-pub mod BookLaws
-pub mod WorkedLaws
-pub mod Main

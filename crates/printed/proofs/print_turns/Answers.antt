@@ -1,7 +1,7 @@
 -- Each turn's part is due, and goes from what is left to what was handed over.
 use Rattle.std.proofs.Common.{arith, ◌+◌, ◌*◌, ◌≤◌, ◌≡◌, length}
 use Rattle.turns.specs.Turned.{kind_by}
-use Rattle.cut_lines.specs.PartLaws.{rest_some}
+use Rattle.cut_lines.proofs.PartLaws.{rest_some}
 use Rattle.printed.specs.HandedLaws.{front_length, over_due, over_more, over_less, over_last}
 use Rattle.printed.proofs.print_turns.Goals as goal
 

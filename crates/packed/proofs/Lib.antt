@@ -1,0 +1,3 @@
+-- What is proved of the definitions in specs/: Main gathers the theorems that are bought, the other files are lemmas.
+-- They stand here and not in specs/, so that a definition made wrong is told by a proof that fails.
+pub mod Main

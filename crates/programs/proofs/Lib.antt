@@ -1,0 +1,7 @@
+-- What is proved of the definitions in specs/: Main gathers the theorems that are bought, the other files are lemmas.
+-- They stand here and not in specs/, so that a definition made wrong is told by a proof that fails.
+pub mod Sample
+pub mod Prints
+pub mod FileLaws
+pub mod MainLaws
+pub mod Main
