@@ -1,13 +1,13 @@
 -- The theorems on printed lines that are bought, together: how each line looks, that its numbers read back to what they were, and the room that a line takes.
 -- To believe them, read Digits, Lines, Values and Sample, with number's Refused and Quoted. Each proof names its law, of ValueLaws or LineLaws.
-use Rattle.std.specs.Prelude.{ℕ, ◌+◌, ◌*◌, ◌^◌, ◌<◌, ◌≤◌, ◌≡◌, refl, List, [], ◌∷◌, map, length}
+use Rattle.std.specs.Prelude.{ℕ, ◌+◌, ◌*◌, ◌^◌, ◌<◌, ◌≤◌, ◌≡◌, refl, List, map, length}
 use Rattle.std.proofs.Common.{arith}
 use Rattle.number.specs.declared.Refusal.{Refusal}
 use Rattle.number.specs.Refused.{number, place}
 use Rattle.number.specs.Numbers.{Bytes}
 use Rattle.number.specs.Quoted.{quoted}
 use Rattle.lines.specs.Digits.{digits_by, decimal}
-use Rattle.lines.specs.Lines.{item, word_line, done_line, stuck_line, refused_line, same_line, differs_line, hex_line, line_room}
+use Rattle.lines.specs.Lines.{item, word_line, done_line, stuck_line, refused_line, differs_line, hex_line, line_room}
 use Rattle.lines.specs.Values.{DigitsOf, unhex}
 use Rattle.lines.specs.Sample.{printed, stated, lines}
 use Rattle.lines.specs.ValueLaws.{decimal_digits, hex_back}

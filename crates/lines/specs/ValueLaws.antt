@@ -1,11 +1,11 @@
 -- What is printed reads back: decimal digits have the number's value and no leading zero, and a line of hexadecimal digits has the text's bytes.
 -- One induction over the digits of a number, from the last to the first, serves all that is said of decimals.
-use Rattle.std.specs.Prelude.{ℕ, zero, suc, ◌+◌, ◌*◌, ◌-◌, ◌/◌, ◌%◌, ◌<◌, ◌≤◌, ◌≡◌, refl, List, [], ◌∷◌, ◌++◌, length, get_or}
+use Rattle.std.specs.Prelude.{ℕ, zero, suc, ◌+◌, ◌*◌, ◌-◌, ◌/◌, ◌%◌, ◌<◌, ◌≤◌, ◌≡◌, refl, List, [], ◌∷◌, ◌++◌, get_or}
 use Rattle.std.proofs.Math.Decide.{dec_lt}
-use Rattle.std.proofs.Common.{arith, ap, ◌∙◌, lt-ltb, le-ltb}
+use Rattle.std.proofs.Common.{arith, ◌∙◌, lt-ltb, le-ltb}
 use Rattle.number.specs.Limits.{bytes}
 use Rattle.number.specs.Numbers.{Bytes}
-use Rattle.lines.specs.Digits.{digit, decimal, hex}
+use Rattle.lines.specs.Digits.{digit, decimal}
 use Rattle.lines.specs.Lines.{hex_line}
 use Rattle.lines.specs.DigitLaws.{decimal_low, decimal_high}
 use Rattle.lines.specs.Values.{value_from, EachDigit, DigitsOf, hex_value, unhex}

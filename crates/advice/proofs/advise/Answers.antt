@@ -2,7 +2,6 @@
 -- Assumes nothing.
 use Rattle.advice.specs.FitLaws.{advice_fits}
 use Rattle.advised.specs.CaseLaws.{unread_told, read_told}
-use borrow.Author.Rules.{rules}
 use Rattle.advice.proofs.advise.Goals as goal
 
 pub returns-then-text-gt-RULES_FILE : goal.returns-then-text-gt-RULES_FILE

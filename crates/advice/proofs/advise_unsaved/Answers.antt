@@ -3,7 +3,6 @@
 use native.Mathlib.Omega.{arith}
 use Rattle.number.specs.Quoted.{quoted}
 use Rattle.advised.specs.Advice.{unsaved}
-use borrow.Author.Rules.{rules}
 use Rattle.advice.proofs.advise_unsaved.Goals as goal
 
 pub returns : goal.returns

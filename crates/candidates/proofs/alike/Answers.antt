@@ -5,7 +5,6 @@ use mathlib.Core.Path.{ap}
 use mathlib.Core.Path.{sym, ◌∙◌}
 use borrow.Author.Tests.{not-true, not-false}
 use Rattle.candidates.specs.RunLaws.{alike_not, alike_next}
-use borrow.Author.Rules.{rules}
 use Rattle.candidates.proofs.alike.Goals as goal
 
 pub returns-then-not-is_bare : goal.returns-then-not-is_bare

@@ -3,7 +3,6 @@
 use mathlib.Core.Path.{sym, ap, ◌∙◌}
 use Rattle.table.specs.Calls.{wrote}
 use Rattle.candidates.specs.TryLaws.{could_given, could_refused}
-use borrow.Author.Rules.{rules}
 use Rattle.candidates.proofs.could_end.Goals as goal
 
 pub returns-in-Bytes : goal.returns-in-Bytes

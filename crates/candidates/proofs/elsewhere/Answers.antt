@@ -1,7 +1,6 @@
 -- `candidates::elsewhere` meets its contract: one law a return.
 -- Assumes nothing.
 use Rattle.candidates.specs.TryLaws.{other_number, other_place, wrong_there}
-use borrow.Author.Rules.{rules}
 use Rattle.candidates.proofs.elsewhere.Goals as goal
 
 pub returns-then-refusal_number : goal.returns-then-refusal_number

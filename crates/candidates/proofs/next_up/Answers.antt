@@ -1,8 +1,7 @@
 -- `candidates::next_up` meets its contract: the flags from c up to r are down.
 -- Assumes nothing.
 use native.Mathlib.Omega.{arith}
-use Prim.Native.Nat.{◌-◌}
-use Rattle.candidates.specs.RunLaws.{Passed, passed_none, passed_more, next_up, next_none}
+use Rattle.candidates.specs.RunLaws.{passed_none, passed_more, next_up, next_none}
 use Rattle.candidates.proofs.next_up.Goals as goal
 
 pub loop-r-init : goal.loop-r-init

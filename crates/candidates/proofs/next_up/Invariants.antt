@@ -1,8 +1,7 @@
 -- `candidates::next_up` meets its contract: the flags from c up to r are down.
 -- Assumes nothing.
-use native.Mathlib.Omega.{arith}
 use Prim.Native.Nat.{◌-◌}
-use Rattle.candidates.specs.RunLaws.{Passed, passed_none, passed_more, next_up, next_none}
+use Rattle.candidates.specs.RunLaws.{Passed}
 use Rattle.candidates.proofs.next_up.Given as goal
 
 abbrev pub invariant-loop-r : goal.invariant-loop-r

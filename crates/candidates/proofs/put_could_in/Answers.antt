@@ -3,7 +3,6 @@
 use mathlib.Core.Path.{◌∙◌}
 use Rattle.phrases.specs.WriteLaws.{writes_as, room_as}
 use Rattle.candidates.specs.TryLaws.{copied, tried_line}
-use borrow.Author.Rules.{rules}
 use Rattle.candidates.proofs.put_could_in.Goals as goal
 
 pub put_runs-requires : goal.put_runs-requires

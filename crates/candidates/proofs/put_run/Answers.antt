@@ -1,6 +1,5 @@
 -- `candidates::put_run` meets its contract: a space, the first byte's name, and behind a hyphen the last's.
 -- Assumes nothing.
-use borrow.Author.Rules.{rules}
 use Rattle.advised.specs.Advice.{byte_name}
 use Rattle.phrases.specs.Left.{left_room, left_step, left_byte, left_some, left_last}
 use Rattle.candidates.specs.RunLaws.{run_tail, run_all, tail_none, tail_some}

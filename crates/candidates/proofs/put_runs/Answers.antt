@@ -1,13 +1,8 @@
 -- `candidates::put_runs` meets its contract: what is left are the runs from lo on, and the newline.
 -- Assumes nothing.
-use borrow.Author.Rules.{rules}
 use native.Mathlib.Omega.{arith}
 use Rattle.number.specs.Quoted.{quoted}
-use mathlib.Core.Path.{◌≡◌}
-use mathlib.Core.Bool.{true}
-use Prim.Native.Nat.{◌-◌, ◌<◌, ◌≤◌}
-use Rattle.phrases.specs.Left.{Left, left_all, left_room, left_step, left_some, left_last}
-use Rattle.candidates.specs.Promises.{flagged}
+use Rattle.phrases.specs.Left.{left_all, left_room, left_step, left_some, left_last}
 use Rattle.candidates.specs.RunLaws.{runs_line, line_start, line_passed, run_room, run_more, line_end}
 use Rattle.candidates.proofs.put_runs.Goals as goal
 

@@ -3,10 +3,9 @@
 use mathlib.Core.Bool.{not}
 use mathlib.Core.Path.{ap}
 use native.Mathlib.Omega.{arith}
-use Prim.Native.Nat.{◌-◌}
 use mathlib.Core.Path.{sym, ◌∙◌}
 use borrow.Author.Tests.{not-true, not-false}
-use Rattle.candidates.specs.RunLaws.{UpTo, up_one, up_more, run_stops, run_unlike, run_ends}
+use Rattle.candidates.specs.RunLaws.{up_one, up_more, run_stops, run_unlike, run_ends}
 use Rattle.candidates.proofs.run_end.Goals as goal
 
 pub loop-hi-init : goal.loop-hi-init

@@ -1,10 +1,7 @@
 -- `candidates::run_end` meets its contract: the flags from the run's first up to hi are up, and each but the last has a neighbour.
 -- Assumes nothing.
-use native.Mathlib.Omega.{arith}
 use Prim.Native.Nat.{◌-◌}
-use mathlib.Core.Path.{sym, ◌∙◌}
-use borrow.Author.Tests.{not-true, not-false}
-use Rattle.candidates.specs.RunLaws.{UpTo, up_one, up_more, run_stops, run_unlike, run_ends}
+use Rattle.candidates.specs.RunLaws.{UpTo}
 use Rattle.candidates.proofs.run_end.Given as goal
 
 abbrev pub invariant-loop-hi : goal.invariant-loop-hi

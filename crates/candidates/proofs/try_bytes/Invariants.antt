@@ -1,9 +1,7 @@
 -- `candidates::try_bytes` meets its contract: every flag below c tells of its byte.
 -- Assumes nothing.
-use native.Mathlib.Omega.{arith}
 use Prim.Native.Nat.{◌-◌}
-use lib.ListN.{length-set}
-use Rattle.candidates.specs.TryLaws.{Trying, trying_none, trying_more, trying_all}
+use Rattle.candidates.specs.TryLaws.{Trying}
 use Rattle.candidates.proofs.try_bytes.Given as goal
 
 abbrev pub invariant-loop-c : goal.invariant-loop-c

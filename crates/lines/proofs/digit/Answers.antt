@@ -1,6 +1,5 @@
 -- `lines::digit` meets its contract: each arm is the definition's, by the test that led there.
 -- Assumes nothing.
-use borrow.Author.Rules.{rules}
 use borrow.Author.Tests.{lt-ltb, le-ltb}
 use Rattle.lines.proofs.digit.Goals as goal
 

@@ -4,8 +4,7 @@ use Prim.Native.Nat.{◌-◌}
 use native.Mathlib.Omega.{arith}
 use mathlib.Core.Path.{refl, ap}
 use lib.ListN.{length, set, length-drop}
-use Rattle.lines.specs.DigitLaws.{Found, found_none, found_room, found_more, found_all}
-use borrow.Author.Rules.{rules}
+use Rattle.lines.specs.DigitLaws.{found_none, found_room, found_more, found_all}
 use Rattle.lines.proofs.put_decimal.Goals as goal
 
 pub loop-rest-init : goal.loop-rest-init

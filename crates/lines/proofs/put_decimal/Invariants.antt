@@ -1,11 +1,6 @@
 -- `lines::put_decimal` meets its contract: each turn stores the last digit of the rest before those that were found.
 -- The measure is the rest. Assumes nothing.
-use Prim.Native.Nat.{◌-◌}
-use native.Mathlib.Omega.{arith}
-use mathlib.Core.Path.{refl, ap}
-use lib.ListN.{length, set, length-drop}
-use Rattle.lines.specs.DigitLaws.{Found, found_none, found_room, found_more, found_all}
-use borrow.Author.Rules.{rules}
+use Rattle.lines.specs.DigitLaws.{Found}
 use Rattle.lines.proofs.put_decimal.Given as goal
 
 abbrev pub invariant-loop-rest : goal.invariant-loop-rest

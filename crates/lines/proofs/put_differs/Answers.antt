@@ -2,7 +2,6 @@
 -- Assumes nothing.
 use native.Mathlib.Omega.{arith}
 use Rattle.lines.specs.LineLaws.{differs_written}
-use borrow.Author.Rules.{rules}
 use Rattle.lines.proofs.put_differs.Goals as goal
 
 pub put_item-at_sheet-requires : goal.put_item-at_sheet-requires

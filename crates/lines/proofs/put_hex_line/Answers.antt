@@ -1,12 +1,8 @@
 -- `lines::put_hex_line` meets its contract: each turn puts one byte in two digits, and what is behind it is left; the newline follows at the text's end.
 -- The measure is what is left of the text. Assumes nothing.
-use Prim.Native.Nat.{◌+◌, ◌-◌, ◌*◌, ◌≤◌}
 use native.Mathlib.Omega.{arith}
-use mathlib.Core.Path.{◌≡◌, refl}
-use lib.ListN.{length, drop}
-use Rattle.lines.specs.Lines.{hex_line}
-use Rattle.lines.specs.LineLaws.{Leads, hex_none, hex_more}
-use borrow.Author.Rules.{rules}
+use mathlib.Core.Path.{refl}
+use Rattle.lines.specs.LineLaws.{hex_none, hex_more}
 use Rattle.lines.proofs.put_hex_line.Goals as goal
 
 pub loop-i-init : goal.loop-i-init

@@ -1,12 +1,10 @@
 -- `lines::put_hex_line` meets its contract: each turn puts one byte in two digits, and what is behind it is left; the newline follows at the text's end.
 -- The measure is what is left of the text. Assumes nothing.
 use Prim.Native.Nat.{◌+◌, ◌-◌, ◌*◌, ◌≤◌}
-use native.Mathlib.Omega.{arith}
-use mathlib.Core.Path.{◌≡◌, refl}
+use mathlib.Core.Path.{◌≡◌}
 use lib.ListN.{length, drop}
 use Rattle.lines.specs.Lines.{hex_line}
-use Rattle.lines.specs.LineLaws.{Leads, hex_none, hex_more}
-use borrow.Author.Rules.{rules}
+use Rattle.lines.specs.LineLaws.{Leads}
 use Rattle.lines.proofs.put_hex_line.Given as goal
 
 abbrev pub invariant-loop-i : goal.invariant-loop-i

@@ -2,7 +2,6 @@
 -- Assumes nothing.
 use native.Mathlib.Omega.{arith}
 use Rattle.lines.specs.LineLaws.{decimal_fits, item_written}
-use borrow.Author.Rules.{rules}
 use Rattle.lines.proofs.put_item.Goals as goal
 
 pub put_decimal-after-requires : goal.put_decimal-after-requires

@@ -2,7 +2,6 @@
 -- Assumes nothing.
 use native.Mathlib.Omega.{arith}
 use Rattle.lines.specs.LineLaws.{refused_written}
-use borrow.Author.Rules.{rules}
 use Rattle.lines.proofs.put_refused.Goals as goal
 
 pub put_item-requires : goal.put_item-requires

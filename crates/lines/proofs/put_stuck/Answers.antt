@@ -2,7 +2,6 @@
 -- Assumes nothing.
 use native.Mathlib.Omega.{arith}
 use Rattle.lines.specs.LineLaws.{stuck_written}
-use borrow.Author.Rules.{rules}
 use Rattle.lines.proofs.put_stuck.Goals as goal
 
 pub returns : goal.returns

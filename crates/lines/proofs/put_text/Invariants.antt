@@ -1,11 +1,9 @@
 -- `lines::put_text` meets its contract: each turn puts one byte, and what is behind it is left; nothing is left at the text's end.
 -- The measure is what is left of the text. Assumes nothing.
 use Prim.Native.Nat.{◌+◌, ◌-◌, ◌≤◌}
-use native.Mathlib.Omega.{arith}
-use mathlib.Core.Path.{◌≡◌, refl}
+use mathlib.Core.Path.{◌≡◌}
 use lib.ListN.{length, drop}
-use Rattle.lines.specs.LineLaws.{Leads, text_none, text_more}
-use borrow.Author.Rules.{rules}
+use Rattle.lines.specs.LineLaws.{Leads}
 use Rattle.lines.proofs.put_text.Given as goal
 
 abbrev pub invariant-loop-i : goal.invariant-loop-i

@@ -5,7 +5,6 @@ use Rattle.number.specs.Numbers.{read_number, taken}
 use Rattle.number.specs.Refused.Answer.{got}
 use Rattle.number.specs.Promises.{reads_field}
 use Rattle.number.proofs.NumberLaws.{field_refused, field_low, field_high, field_got}
-use borrow.Author.Rules.{rules}
 use Rattle.number.proofs.read_field.Goals as goal
 
 pub returns-in_default : goal.returns-in_default

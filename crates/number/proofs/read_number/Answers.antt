@@ -10,7 +10,6 @@ use Rattle.number.specs.Numbers.{taken}
 use Rattle.number.specs.Promises.{ReadsNumber, reads_number}
 use Rattle.number.proofs.NumberLaws.{Way, way_read, way_groups}
 use Rattle.number.proofs.NumberLaws.Way.{none, one, half, two, most, three, over}
-use borrow.Author.Rules.{rules}
 use Rattle.number.proofs.read_number.Goals as goal
 
 -- what is answered is what that way answers, and the groups are those that it read

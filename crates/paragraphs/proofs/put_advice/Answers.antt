@@ -8,7 +8,6 @@ use Rattle.phrases.specs.WriteLaws.{writes_as}
 use Rattle.advised.specs.CaseLaws.{typed_outside, typed_inside, range_none, range_outside, range_inside}
 use Rattle.paragraphs.specs.PartLaws.{nothing_told}
 use Rattle.paragraphs.specs.RoomLaws.{typed_room, range_room}
-use borrow.Author.Rules.{rules}
 use Rattle.paragraphs.proofs.put_advice.Goals as goal
 
 pub returns-then-text-p : goal.returns-then-text-p

@@ -6,7 +6,6 @@ use lib.ListN.{drop}
 use Rattle.advised.specs.Advice.{place_words, too_much, shown_line}
 use Rattle.phrases.specs.Left.{left_room, left_step, left_last}
 use Rattle.paragraphs.specs.PartLaws.{range_all}
-use borrow.Author.Rules.{rules}
 use Rattle.paragraphs.proofs.put_range.Goals as goal
 
 pub put_place-fault-requires : goal.put_place-fault-requires

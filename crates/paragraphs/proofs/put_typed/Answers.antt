@@ -2,7 +2,6 @@
 -- Assumes nothing.
 use Rattle.phrases.specs.Left.{left_last}
 use Rattle.paragraphs.specs.PartLaws.{typed_all, place_room, place_on_lem, fault_room, fault_on_lem, shown_room, shown_on_lem, mark_room, mark_on_lem}
-use borrow.Author.Rules.{rules}
 use Rattle.paragraphs.proofs.put_typed.Goals as goal
 
 pub put_place-fault-requires : goal.put_place-fault-requires

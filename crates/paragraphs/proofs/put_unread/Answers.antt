@@ -6,7 +6,6 @@ use Rattle.advised.specs.Advice.{over_file, in_bytes}
 use Rattle.phrases.specs.Left.{left_room, left_step, left_last}
 use Rattle.paragraphs.specs.PartLaws.{unread_all}
 use Rattle.paragraphs.specs.RoomLaws.{unread_most}
-use borrow.Author.Rules.{rules}
 use Rattle.paragraphs.proofs.put_unread.Goals as goal
 
 pub put_phrase-bytes-requires : goal.put_phrase-bytes-requires

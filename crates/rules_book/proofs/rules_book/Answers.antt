@@ -2,7 +2,6 @@
 -- Assumes nothing.
 use native.Mathlib.Omega.{arith}
 use Rattle.rules_book.specs.PrintLaws.{too_long, makes_book}
-use borrow.Author.Rules.{rules}
 use Rattle.rules_book.proofs.rules_book.Goals as goal
 
 pub returns-then-text-le-RULES_FILE : goal.returns-then-text-le-RULES_FILE
