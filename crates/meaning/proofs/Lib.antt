@@ -1,4 +1,5 @@
--- What is proved of the definitions in specs/: Main gathers the theorems that are bought, the other files are lemmas.
+-- What is proved of normal form, derivatives, labels and first words; SampleTests, SampleHolds, FormsHold and LengthsHold have the lists computed.
+-- Main gathers the theorems that are bought, the other files prove them, and the code's proofs cite those too.
 -- They stand here and not in specs/, so that a definition made wrong is told by a proof that fails.
 pub mod NormalMeans
 pub mod NormalShape

@@ -1,5 +1,5 @@
 -- What word rules mean. Definitions, in reading order: Re, Lang, Means, Order, Normal (with Join, which src declares), Derive, Limited, Rules, Words, Sample, Clauses, Forms, Lengths, Shape, Edges.
--- The other files prove things of these; Main gathers the theorems that are bought.
+-- The other files here and those in proofs/ prove things of these; proofs/Main.antt gathers the theorems that are bought.
 pub mod Re
 pub mod PartLaws
 pub mod Lang

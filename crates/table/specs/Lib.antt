@@ -1,5 +1,5 @@
 -- Tables and sheets. Definitions, in reading order: Table, Sheet, Calls, Formed, Faults, Areas, Samples, Promises; the other files prove things of these.
--- Main gathers the theorems that are bought.
+-- Others stand in proofs/, where Main gathers the theorems that are bought.
 pub mod Table
 pub mod Sheet
 pub mod Calls

@@ -1,5 +1,5 @@
 -- Rules typed as text. Definitions, in reading order: Sets, Exp, Spells, Lines; then what is computed: Scan, Reader, LineReader, Calls;
--- then what the theorems say: Bought, Classes, Worked. Main has the theorems; the other files prove them.
+-- then what the theorems say: Bought, Classes, Worked. proofs/Main.antt has the theorems; the other files, here and there, prove them.
 pub mod Sets
 pub mod Exp
 pub mod Spells
