@@ -1,5 +1,5 @@
-/* The word cutter for C, on Linux for x86-64: the functions of crates/library/out/liblibrary.a, which `rt lib` proves and writes in
-   crates/library. Their contracts, for every input, are those of crates/library/src/lib.rt; this page says the same in words.
+/* The word cutter for C, on Linux for x86-64: the functions of target/staticlib/liblibrary.a, which `tools/archive` has proved and
+   writes. Their contracts, for every input, are those of crates/library/src/lib.rt; this page says the same in words.
 
    ONE SCHEME FOR EVERY CALL. A call returns a code and writes all four numbers of `answer`.
      code 0         the call gave its answer; `answer` holds its numbers as said at the call, and 0 where nothing is said.

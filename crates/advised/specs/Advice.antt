@@ -63,7 +63,7 @@ abbrev pub wrong_at : ℕ → Outcome (List ℕ) → Bool
 wrong_at p (gives book) = false
 wrong_at p (refuses r) = eqb (number r) (number (Typed p)) && eqb (place r) p
 
--- c is not wrong behind these bytes; by the theorem the-bytes of Main: some rightly typed text begins with them and then c
+-- c is not wrong behind these bytes; by the theorem the_bytes of Main: some rightly typed text begins with them and then c
 unfoldable pub could_stand : Text → ℕ → Bool
 could_stand before c = not (wrong_at (length before) (book_bytes (before ++ (c ∷ []))))
 

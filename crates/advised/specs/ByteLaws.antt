@@ -22,7 +22,7 @@ use Rattle.typed.specs.Calls.{book_bytes}
 use Rattle.typed.specs.Bought.{OneOf}
 use Rattle.typed.specs.Bought.OneOf.{a_book, out_of_range, wrongly_typed}
 use Rattle.typed.specs.AnswerLaws.{when_wrong}
-use Rattle.typed.specs.Main.{the_typing, the_wrong_byte, the_answers}
+use Rattle.typed.proofs.Main.{the_typing, the_wrong_byte, the_answers}
 use Rattle.advised.specs.Advice.{wrong_at, could_stand}
 use Rattle.advised.specs.Bought.{Begins}
 

@@ -6,7 +6,7 @@ use Rattle.number.specs.declared.Refusal.{Refusal}
 use Rattle.number.specs.Limits.{rules_file}
 use Rattle.number.specs.Numbers.{write_number}
 use Rattle.meaning.specs.Re.{Text}
-use Rattle.meaning.specs.SampleTests.{same_bytes}
+use Rattle.meaning.proofs.SampleTests.{same_bytes}
 use Rattle.book.specs.Book.{write_node, write_nodes, write_rule, write_rules, write_book}
 use Rattle.lines.specs.Digits.{digits_by, decimal}
 use Rattle.typed.specs.Sets.{named, spans}
@@ -17,7 +17,7 @@ use Rattle.typed.specs.Scan.{scan}
 use Rattle.typed.specs.Lines.{digit}
 use Rattle.typed.specs.LineReader.{begins, colon, on_digit, ends, stepped, turn, accept, read_lines}
 use Rattle.typed.specs.Calls.{book_of, out_of, fault, start_of, ranged, answered, book_bytes}
-use Rattle.typed.specs.WorkedLaws.{same_bytes_lem}
+use Rattle.typed.proofs.WorkedLaws.{same_bytes_lem}
 use Rattle.number.specs.Quoted.{quoted}
 use Rattle.typed.specs.TestLaws.{both_hold}
 use Rattle.advised.specs.Advice.{newlines, last_start, shown, mark_line, could_stand, kept, neighbours, joined, runs, byte_name, run_name, run_names, tested_line}

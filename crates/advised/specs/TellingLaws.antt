@@ -18,7 +18,7 @@ use Rattle.typed.specs.Calls.{book_bytes}
 use Rattle.typed.specs.Bought.{FirstOut, OutOfRange, OneOf}
 use Rattle.typed.specs.Bought.OutOfRange.{no_line, at_line}
 use Rattle.typed.specs.Bought.OneOf.{a_book, out_of_range, wrongly_typed}
-use Rattle.typed.specs.Main.{the_wrong_byte, the_range, the_answers}
+use Rattle.typed.proofs.Main.{the_wrong_byte, the_range, the_answers}
 use Rattle.rules_book.specs.Print.{rules_bytes}
 use Rattle.advised.specs.Advice.{newline, last_start, start_at, column_at, no_rule, advice_of}
 use Rattle.advised.specs.Bought.{Told}

@@ -15,8 +15,8 @@ use Rattle.number.specs.Limits.{first_version, last_version, two_groups, rules, 
 use Rattle.number.specs.Refused.Answer.{got, refused}
 use Rattle.number.specs.Numbers.{Bytes, field, write_number}
 use Rattle.number.specs.Lists.{drop_past}
-use Rattle.number.specs.NumberLaws.{read_written, field_written}
-use Rattle.number.specs.FaultLaws.{number_read, fault_refused, field_fault}
+use Rattle.number.proofs.NumberLaws.{read_written, field_written}
+use Rattle.number.proofs.FaultLaws.{number_read, fault_refused, field_fault}
 use Rattle.book.specs.declared.Node.{Node}
 use Rattle.book.specs.Book.{Rule, takes, total, write_node, write_nodes, write_rule, write_rules, write_book}
 use Rattle.book.specs.Reads.{read_range, read_either, read_after, read_node, more_nodes, more_rules, book, read_book}

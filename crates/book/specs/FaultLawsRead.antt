@@ -18,8 +18,8 @@ use Rattle.number.specs.Numbers.{Bytes, read_number, field, write_number, Number
 use Rattle.number.specs.Reading.{Reader, onward, answer}
 use Rattle.number.specs.Branch.{by_cond}
 use Rattle.number.specs.Lists.{drop_one}
-use Rattle.number.specs.NumberLaws.{written_read, field_read}
-use Rattle.number.specs.FaultLaws.{refused_fault, refused_field}
+use Rattle.number.proofs.NumberLaws.{written_read, field_read}
+use Rattle.number.proofs.FaultLaws.{refused_fault, refused_field}
 use Rattle.meaning.specs.Tests.{clash as untrue}
 use Rattle.book.specs.declared.Node.{Node}
 use Rattle.book.specs.Book.{Rule, Book, listed, allowed, takes, total, write_node, write_nodes, write_rule, write_rules, write_book}

@@ -11,7 +11,7 @@ use Rattle.number.specs.Refused.{Answer, Outcome}
 use Rattle.number.specs.Refused.Answer.{got, refused}
 use Rattle.number.specs.Refused.Outcome.{gives, refuses}
 use Rattle.number.specs.Numbers.{Bytes, field}
-use Rattle.number.specs.NumberLaws.{field_read}
+use Rattle.number.proofs.NumberLaws.{field_read}
 use Rattle.number.specs.Reading.{map_answer}
 use Rattle.book.specs.declared.RulePlace.{RulePlace}
 use Rattle.book.specs.Book.{Book}

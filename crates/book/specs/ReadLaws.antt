@@ -7,7 +7,7 @@ use Rattle.number.specs.declared.Refusal.{Refusal}
 use Rattle.number.specs.Limits.{first_version, last_version, rules, nodes}
 use Rattle.number.specs.Refused.Answer.{got, refused}
 use Rattle.number.specs.Numbers.{Bytes, write_number}
-use Rattle.number.specs.NumberLaws.{field_written}
+use Rattle.number.proofs.NumberLaws.{field_written}
 use Rattle.book.specs.declared.Node.{Node}
 use Rattle.book.specs.Book.{Rule, Book, total, write_node, write_nodes, write_rules, write_book}
 use Rattle.book.specs.Reads.{read_node, more_nodes, more_rules, book, read_book}

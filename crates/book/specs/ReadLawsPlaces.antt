@@ -6,7 +6,7 @@ use Rattle.std.proofs.Math.Seq.{split_at}
 use Rattle.number.specs.Limits.{first_version, last_version, rules, kinds, nodes}
 use Rattle.number.specs.Refused.Answer.{got}
 use Rattle.number.specs.Numbers.{Bytes, field, write_number}
-use Rattle.number.specs.NumberLaws.{field_written}
+use Rattle.number.proofs.NumberLaws.{field_written}
 use Rattle.number.specs.Lists.{drop_past}
 use Rattle.book.specs.declared.Node.{Node}
 use Rattle.book.specs.Book.{Rule, Book, total, write_node, write_nodes, write_rule, write_rules, write_book}

@@ -9,11 +9,11 @@ use Rattle.number.specs.Numbers.{Bytes, several, read_number, write_number, fiel
 use Rattle.number.specs.Reading.{Reader, onward}
 use Rattle.number.specs.Branch.{by_cond}
 use Rattle.number.specs.Lists.{drop_past}
-use Rattle.number.specs.NumberLaws.{Way, read_way, written_read, field_read}
-use Rattle.number.specs.NumberLaws.Way.{none, one, half, two, most, three, over}
-use Rattle.number.specs.FaultLaws.{OfNumber, of_fault, field_refusal, refused_fault}
+use Rattle.number.proofs.NumberLaws.{Way, read_way, written_read, field_read}
+use Rattle.number.proofs.NumberLaws.Way.{none, one, half, two, most, three, over}
+use Rattle.number.proofs.FaultLaws.{OfNumber, of_fault, field_refusal, refused_fault}
 use Rattle.meaning.specs.Tests.{clash as untrue}
-use Rattle.number.specs.FaultLaws.OfNumber.{short, runs_on, padded, outside}
+use Rattle.number.proofs.FaultLaws.OfNumber.{short, runs_on, padded, outside}
 
 -- a refusal is not something got
 pub clash : {A : Type 0} {r : Refusal} {x : A} {next : ℕ} → ◌≡◌ {A = Answer A} (refused r) (got x next) → ⊥

@@ -5,7 +5,7 @@ use Rattle.std.proofs.Common.{arith, ap, ◌∙◌, le-ltb, eq-eqb}
 use Rattle.number.specs.Limits.{group, kinds, nodes, last_byte, first_letter, last_letter}
 use Rattle.number.specs.Refused.Answer.{got}
 use Rattle.number.specs.Numbers.{write_number}
-use Rattle.number.specs.NumberLaws.{read_written, field_written}
+use Rattle.number.proofs.NumberLaws.{read_written, field_written}
 use Rattle.book.specs.declared.Node.{Node}
 use Rattle.book.specs.declared.Node.TheVariants.{Nothing, Empty, Range, Cat, Alt, Star, Either, And, Not}
 use Rattle.book.specs.Book.{Rule, code_of, takes, total, write_fields, write_node, write_nodes, write_rule, write_rules}

@@ -9,9 +9,9 @@ use Rattle.number.specs.Refused.{Outcome}
 use Rattle.number.specs.Refused.Outcome.{gives, refuses}
 use Rattle.meaning.specs.Re.{Re, Text}
 use Rattle.meaning.specs.Rules.{Names, label_from, label, label_after}
-use Rattle.meaning.specs.RulesMean.{names_after}
+use Rattle.meaning.proofs.RulesMean.{names_after}
 use Rattle.meaning.specs.Words.{Found, FirstWord, reach}
-use Rattle.meaning.specs.WordsMean.{first_alike}
+use Rattle.meaning.proofs.WordsMean.{first_alike}
 use Rattle.table.specs.Table.{Table}
 use Rattle.cutting.specs.Steps.{label_at, label_of, Labels, FirstBy, first_by}
 use Rattle.cutting.specs.Cut.{Cuts, cut_by}

@@ -19,7 +19,7 @@ use Rattle.table.specs.Calls.{padded, cramped, filled_with}
 use Rattle.table.specs.Formed.{Formed}
 use Rattle.table.specs.SheetFormed.{formed_well}
 use Rattle.table.specs.SheetLaws.{sheet_read_back}
-use Rattle.table.specs.SheetCalls.{filled_has_table}
+use Rattle.table.proofs.SheetCalls.{filled_has_table}
 use Rattle.vector.specs.Layout.{work_length}
 use Rattle.walk.specs.WiderLaws.{wider_gives, wider_refuses, long_stays}
 use Rattle.built.specs.Build.{alone_to, built_of, build_rules_to, build_rules}

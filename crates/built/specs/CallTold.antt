@@ -12,7 +12,7 @@ use Rattle.book.specs.Reads.{read_book}
 use Rattle.book.specs.Expression.{meant}
 use Rattle.table.specs.Table.{Table}
 use Rattle.table.specs.Calls.{cramped, untouched}
-use Rattle.table.specs.AreaLaws.{roomy, cramped_labels, cramped_targets, filled_leaves, cleared_leaves, untouched_leaves}
+use Rattle.table.proofs.AreaLaws.{roomy, cramped_labels, cramped_targets, filled_leaves, cleared_leaves, untouched_leaves}
 use Rattle.vector.specs.Layout.{work_length}
 use Rattle.built.specs.Build.{build_rules}
 use Rattle.built.specs.Calls.{build_read, build_book, filled_by, build_of}

@@ -87,7 +87,7 @@ module _ (rs : List Re) where
   pub the_limits : Limits (held_states rs) (row_of (build_rules rs))
   the_limits = build_limits rs
 
--- its walk's own refusal is neither Long nor Pool, so that walk's `the-stops` tells where each of the three comes
+-- its walk's own refusal is neither Long nor Pool, so that walk's `the_stops` tells where each of the three comes
 pub the_own_refusal : OwnRefusal alone
 the_own_refusal =
     record {

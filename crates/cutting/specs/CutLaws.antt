@@ -8,7 +8,7 @@ use Rattle.number.specs.Numbers.{Bytes}
 use Rattle.meaning.specs.Re.{Re, Text}
 use Rattle.meaning.specs.Words.{Found, FirstWord, first_word}
 use Rattle.meaning.specs.Words.Found.{Stuck, Word as Found·word}
-use Rattle.meaning.specs.WordsMean.{first_one, scan_finds, first_word_lem, one_first_word}
+use Rattle.meaning.proofs.WordsMean.{first_one, scan_finds, first_word_lem, one_first_word}
 use Rattle.table.specs.Table.{Table}
 use Rattle.cutting.specs.Steps.{step_in, label_at, Labels, FirstBy, first_by}
 use Rattle.cutting.specs.Cut.{Cut, word_at, ends, before, Cuts, cut_by}

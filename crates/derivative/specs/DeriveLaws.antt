@@ -10,9 +10,9 @@ use Rattle.meaning.specs.Normal.{cat, negated, formed}
 use Rattle.meaning.specs.Derive.{deriv}
 use Rattle.meaning.specs.Limited.{Fit, ◌>>=◌, short, fit, deriv_fit}
 use Rattle.meaning.specs.Limited.Fit.{Long, Fits}
-use Rattle.meaning.specs.LimitedLaws.{deriv_short, deriv_fits_short}
+use Rattle.meaning.proofs.LimitedLaws.{deriv_short, deriv_fits_short}
 use Rattle.meaning.specs.Shape.{InShape, Sorts}
-use Rattle.meaning.specs.ShapeLaws.{shape_cat, shape_negated, shape_deriv, cat_members}
+use Rattle.meaning.proofs.ShapeLaws.{shape_cat, shape_negated, shape_deriv, cat_members}
 use Rattle.meaning.specs.PartLaws.{size_some}
 use Rattle.meaning.specs.Tests.{clash}
 use Rattle.meaning.specs.SizeLaws.{short_members, part_short}

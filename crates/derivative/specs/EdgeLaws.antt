@@ -10,7 +10,7 @@ use Rattle.meaning.specs.Re.{Re, parts, sizes}
 use Rattle.meaning.specs.Limited.{short}
 use Rattle.meaning.specs.SizeLaws.{short_size}
 use Rattle.meaning.specs.Edges.{range_edge, own_edge, next_edge, next_edge_all}
-use Rattle.meaning.specs.EdgeLaws.{edge_parts, edge_none, edge_more, edge_within}
+use Rattle.meaning.proofs.EdgeLaws.{edge_parts, edge_none, edge_more, edge_within}
 use Rattle.term.specs.declared.Term.{Term}
 use Rattle.term.specs.declared.Term.TheVariants.{Nothing, Empty, Range, Cat, Alt, Star, And, Not}
 use Rattle.term.specs.Cells.{node_of, grow, term, Below, Sound}

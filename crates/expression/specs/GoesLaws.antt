@@ -16,7 +16,7 @@ use Rattle.typed.specs.Reader.Frame.{bared, held}
 use Rattle.typed.specs.Reader.Mode.{plain}
 use Rattle.typed.specs.Reader.State.{at}
 use Rattle.typed.specs.Reader.Step.{wrong, go}
-use Rattle.typed.specs.SpelledIsRead.{runs_append}
+use Rattle.typed.proofs.SpelledIsRead.{runs_append}
 use Rattle.typed.specs.TestLaws.{or_false}
 use Rattle.names.specs.Bytes.{byte_at, starting, marking}
 use Rattle.names.specs.ByteLaws.{byte_inside}

@@ -18,7 +18,7 @@ use Rattle.typed.specs.Reader.Known.{unknown, begun, whole}
 use Rattle.typed.specs.Reader.Mode.{plain, escape, half, naming}
 use Rattle.typed.specs.Reader.State.{at}
 use Rattle.typed.specs.Reader.Step.{wrong, go}
-use Rattle.typed.specs.SpelledIsRead.{key_self}
+use Rattle.typed.proofs.SpelledIsRead.{key_self}
 use Rattle.typed.specs.CallLaws.{HexSmall, hex_small}
 use Rattle.laid.specs.Laid.{pack, AddsCell, Adds}
 use Rattle.laid.specs.LaidLaws.{adds_node}

@@ -6,7 +6,7 @@ use Rattle.number.specs.Limits.{group, two_groups, last_byte}
 use Rattle.number.specs.Branch.{by_cond}
 use Rattle.number.specs.Lists.{Writes, writes_none, writes_then, written_length}
 use Rattle.number.specs.Numbers.{write_number}
-use Rattle.number.specs.NumberLaws.{number_width}
+use Rattle.number.proofs.NumberLaws.{number_width}
 use Rattle.book.specs.declared.Node.{Node}
 use Rattle.book.specs.declared.Node.TheVariants.{Nothing, Empty, Range, Cat, Alt, Star, Either, And, Not}
 use Rattle.book.specs.Book.{write_node, write_nodes}

@@ -1,5 +1,5 @@
-// Our calls, exported for programs in C: each takes slices as pointer and length and packs its answer as packed's specs/Packed.antt says.
-// Every input is taken; include/lubiranguk.h is the same list of calls in C's words.
+// Our calls as programs in C have them: each packs its answer as packed's specs/Packed.antt says. Every input is taken.
+// The crate library_c exports them under the same names, and include/lubiranguk.h is the same list of calls in C's words.
 #![tactic(auto)]
 
 ghost use Rattle.std.specs.Prelude.{◌≡◌};
@@ -16,8 +16,7 @@ use number::Refusal;
 use packed::CELLS;
 
 // How many rules a book has and how many nodes in all.
-#[unsafe(no_mangle)]
-pub extern "C" fn lubi_check_book(book: &[u8], answer: &mut [usize; CELLS]) -> usize
+pub fn lubi_check_book(book: &[u8], answer: &mut [usize; CELLS]) -> usize
     ensures { left result answer.new ≡ packed told_size (check_of book.now) }
 {
     let found = checking::check_book(book);
@@ -25,8 +24,7 @@ pub extern "C" fn lubi_check_book(book: &[u8], answer: &mut [usize; CELLS]) -> u
 }
 
 // The kind of a rule, or that the book has no such rule.
-#[unsafe(no_mangle)]
-pub extern "C" fn lubi_rule_kind(book: &[u8], rule: usize, answer: &mut [usize; CELLS]) -> usize
+pub fn lubi_rule_kind(book: &[u8], rule: usize, answer: &mut [usize; CELLS]) -> usize
     ensures { left result answer.new ≡ packed told_kind (kind_of book.now rule) }
 {
     let found = places::rule_kind(book, rule);
@@ -34,8 +32,7 @@ pub extern "C" fn lubi_rule_kind(book: &[u8], rule: usize, answer: &mut [usize; 
 }
 
 // Whether a table is well formed; no number is told of one that is.
-#[unsafe(no_mangle)]
-pub extern "C" fn lubi_well_formed<'a>(
+pub fn lubi_well_formed<'a>(
     count: usize,
     labels: &'a [u8],
     targets: &'a [u8],
@@ -51,8 +48,7 @@ pub extern "C" fn lubi_well_formed<'a>(
 }
 
 // A book is built into the table area.
-#[unsafe(no_mangle)]
-pub extern "C" fn lubi_build(
+pub fn lubi_build(
     book: &[u8],
     labels: &mut [u8],
     targets: &mut [u8],
@@ -74,8 +70,7 @@ pub extern "C" fn lubi_build(
 }
 
 // A sheet is read into the table area.
-#[unsafe(no_mangle)]
-pub extern "C" fn lubi_load(
+pub fn lubi_load(
     sheet: &[u8],
     labels: &mut [u8],
     targets: &mut [u8],
@@ -91,8 +86,7 @@ pub extern "C" fn lubi_load(
 }
 
 // A table is written as its sheet.
-#[unsafe(no_mangle)]
-pub extern "C" fn lubi_write_sheet<'a>(
+pub fn lubi_write_sheet<'a>(
     count: usize,
     labels: &'a [u8],
     targets: &'a [u8],
@@ -108,8 +102,7 @@ pub extern "C" fn lubi_write_sheet<'a>(
 }
 
 // A text of typed rules becomes a rule book.
-#[unsafe(no_mangle)]
-pub extern "C" fn lubi_type(text: &[u8], out: &mut [u8], answer: &mut [usize; CELLS]) -> usize
+pub fn lubi_type(text: &[u8], out: &mut [u8], answer: &mut [usize; CELLS]) -> usize
     ensures answer_after { left result answer.new ≡ packed told_count (type_of text.now out.old).answer }
     ensures out_after { out.new ≡ (type_of text.now out.old).out }
 {
@@ -118,8 +111,7 @@ pub extern "C" fn lubi_type(text: &[u8], out: &mut [u8], answer: &mut [usize; CE
 }
 
 // The words of a text from a place on go into cells, three for each.
-#[unsafe(no_mangle)]
-pub extern "C" fn lubi_cut_from<'a>(
+pub fn lubi_cut_from<'a>(
     count: usize,
     labels: &'a [u8],
     targets: &'a [u8],
@@ -139,8 +131,7 @@ pub extern "C" fn lubi_cut_from<'a>(
 }
 
 // A book is compared with a table; where they differ, the text goes to the front of the text area.
-#[unsafe(no_mangle)]
-pub extern "C" fn lubi_compare<'a>(
+pub fn lubi_compare<'a>(
     book: &'a [u8],
     count: usize,
     labels: &'a [u8],

@@ -1,5 +1,5 @@
 -- What word rules mean. Definitions, in reading order: Re, Lang, Means, Order, Normal (with Join, which src declares), Derive, Limited, Rules, Words, Sample, Clauses, Forms, Lengths, Shape, Edges.
--- The other files prove things of these; Main gathers the theorems that are bought.
+-- The other files here and those in proofs/ prove things of these; proofs/Main.antt gathers the theorems that are bought.
 pub mod Re
 pub mod PartLaws
 pub mod Lang
@@ -13,28 +13,13 @@ pub mod JoinLaws
 pub mod Derive
 pub mod Tests
 pub mod PlainMeans
-pub mod NormalMeans
-pub mod NormalShape
-pub mod DeriveMeans
 pub mod Limited
-pub mod LimitedLaws
 pub mod Rules
-pub mod RulesMean
 pub mod Words
-pub mod WordsMean
 pub mod Sample
 pub mod Clauses
 pub mod Forms
-pub mod FormsHold
 pub mod Lengths
-pub mod LengthsHold
-pub mod SampleTests
-pub mod SampleHolds
 pub mod Shape
-pub mod ShapeLaws
-pub mod FormLaws
-pub mod MemberLaws
 pub mod SizeLaws
 pub mod Edges
-pub mod EdgeLaws
-pub mod Main

@@ -1,4 +1,4 @@
-// What word rules mean: definitions and theorems, all of them in specs/, and the type that they share with the code above.
+// What word rules mean: definitions in specs/, theorems there and in proofs/, and the type that they share with the code above.
 // Code of the layers above is proved against them; this crate runs nothing.
 
 // How members are joined: one after another, as a choice, or so that a text belongs to all of them.

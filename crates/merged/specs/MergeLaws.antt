@@ -10,8 +10,8 @@ use Rattle.meaning.specs.JoinLaws.{joined_size}
 use Rattle.meaning.specs.Limited.{short}
 use Rattle.meaning.specs.Order.{order}
 use Rattle.meaning.specs.Shape.{Sorts, Ordered, InShape, head_of}
-use Rattle.meaning.specs.ShapeLaws.{shape_joined, head_alone, head_more, united_less_one, united_less_more, united_same_one, united_same_left}
-use Rattle.meaning.specs.ShapeLaws.{united_same_more, united_greater_one, united_greater_more}
+use Rattle.meaning.proofs.ShapeLaws.{shape_joined, head_alone, head_more, united_less_one, united_less_more, united_same_one, united_same_left}
+use Rattle.meaning.proofs.ShapeLaws.{united_same_more, united_greater_one, united_greater_more}
 use Rattle.meaning.specs.SizeLaws.{part_short}
 use Rattle.term.specs.declared.Term.{Term}
 use Rattle.term.specs.Cells.{term, Sound}

@@ -7,7 +7,7 @@ use Rattle.meaning.specs.declared.Join.TheVariants.{Then, Or, Both}
 use Rattle.meaning.specs.Re.{Re, is_nothing}
 use Rattle.meaning.specs.Normal.{formed}
 use Rattle.meaning.specs.Shape.{InShape, Sorts, beside, united}
-use Rattle.meaning.specs.ShapeLaws.{formed_left, formed_right, formed_united, formed_members, beside_one, united_members}
+use Rattle.meaning.proofs.ShapeLaws.{formed_left, formed_right, formed_united, formed_members, beside_one, united_members}
 use Rattle.meaning.specs.Limited.{short}
 use Rattle.term.specs.Cells.{term}
 use Rattle.term.specs.Area.{Makes}

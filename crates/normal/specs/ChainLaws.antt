@@ -7,7 +7,7 @@ use Rattle.meaning.specs.declared.Join.TheVariants.{Then}
 use Rattle.meaning.specs.Re.{Re, is_nothing, is_empty}
 use Rattle.meaning.specs.Normal.{chain, cat, star, negated}
 use Rattle.meaning.specs.JoinLaws.{chain_one}
-use Rattle.meaning.specs.ShapeLaws.{cat_chain}
+use Rattle.meaning.proofs.ShapeLaws.{cat_chain}
 use Rattle.meaning.specs.Tests.{clash, is_nothing_lem, is_empty_lem}
 use Rattle.term.specs.declared.Term.{Term}
 use Rattle.term.specs.declared.Term.TheVariants.{Nothing, Empty, Range, Cat, Alt, Star, And, Not}

@@ -1,5 +1,5 @@
 -- What is wrong with a number or a field of a file, told of its bytes alone: rows 1, 2, 3 and 15 of the table, each at the number's first byte.
--- Main has the theorems that the readers refuse exactly these, by these refusals, and that the number reader tells these groups.
+-- proofs/Main.antt has the theorems that the readers refuse exactly these, by these refusals, and that the number reader tells these groups.
 use Rattle.std.specs.Prelude.{ℕ, suc, ◌+◌, ◌<◌, ◌≤◌, ◌≡◌, List, ◌∷◌, length, get_or, drop}
 use Rattle.number.specs.declared.Refusal.{Refusal}
 use Rattle.number.specs.declared.Refusal.TheVariants.{Short, Number, Range, Padded}

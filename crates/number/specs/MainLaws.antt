@@ -1,6 +1,6 @@
--- Small laws that Main cites and nothing else does: what a list of bytes is, where nothing follows, and room for what is written.
+-- Small laws that proofs/Main.antt cites and nothing else does: what a list of bytes is, where nothing follows, and room for what is written.
 -- The larger ones stand in the files of their matter.
-use Rattle.std.specs.Prelude.{ℕ, zero, suc, ◌+◌, ◌<◌, ◌≤◌, ◌≡◌, ◌↔◌, List, [], ◌∷◌, length, take, drop}
+use Rattle.std.specs.Prelude.{ℕ, zero, suc, ◌+◌, ◌<◌, ◌≤◌, ◌≡◌, ◌↔◌, List, [], ◌∷◌, length}
 use Rattle.std.proofs.Common.{arith, lt-ltb, le-ltb, length-append, length-take, length-drop}
 use Rattle.number.specs.declared.Refusal.TheVariants.{Tail}
 use Rattle.number.specs.Limits.{bytes}

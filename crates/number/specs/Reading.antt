@@ -1,6 +1,6 @@
 -- Reading a file: a reader starts at a place and answers what it got and the place after it, or a refusal, which ends the reading.
 -- Written in do blocks, readers of whole files follow document 01 line by line.
-use Rattle.std.specs.Prelude.{ℕ, Bool, true, false, cond, List, ltb, length}
+use Rattle.std.specs.Prelude.{ℕ, Bool, cond, List, ltb, length}
 use Rattle.number.specs.declared.Refusal.{Refusal}
 use Rattle.number.specs.declared.Refusal.TheVariants.{Tail}
 use Rattle.number.specs.Refused.{Answer}

@@ -1,9 +1,9 @@
 -- A refusal's number and place name it, and its number is never 0, which is the code of a call that gave its answer.
 -- So number and place fix the refusal, and whoever has them can tell it.
-use Rattle.std.specs.Prelude.{ℕ, ◌≡◌, refl, false, eqb}
+use Rattle.std.specs.Prelude.{◌≡◌, refl, false, eqb}
 use Rattle.number.specs.declared.Refusal.{Refusal}
 use Rattle.number.specs.declared.Refusal.TheVariants.{Short, Number, Range, Stack, Tail, Long, Pool, States, Runs, Loaded, Room, Pairs, Input, Typed, Padded}
-use Rattle.number.specs.Refused.{number, place, Row}
+use Rattle.number.specs.Refused.{number, place}
 use Rattle.number.specs.Refused.Row.{row}
 use Rattle.number.specs.Rows.{refusal_of}
 

@@ -1,5 +1,5 @@
 -- Numbers of files worked by hand: document 01's own, each width from both sides, and fields at their bounds, with what is answered of each; and how many groups are told of a number.
--- Main has the theorems that the readers answer and tell so; the checker computes them.
+-- proofs/Main.antt has the theorems that the readers answer and tell so; the checker computes them.
 use Rattle.std.specs.Prelude.{ℕ, zero, suc, List, [], ◌∷◌, ◌++◌}
 use Rattle.number.specs.Refused.{Answer, number, place}
 use Rattle.number.specs.Refused.Answer.{got, refused}

@@ -1,5 +1,5 @@
 -- What C got, read back: from the code and the four cells to the answer that the call gave, or to its refusal and place.
--- specs/Main.antt proves that this is the answer that was packed, so nothing is lost on the way.
+-- proofs/Main.antt proves that this is the answer that was packed, so nothing is lost on the way.
 use Rattle.std.specs.Prelude.{ℕ, Bool, cond, List, ◌∷◌, eqb, get_or}
 use Rattle.number.specs.Refused.{Outcome}
 use Rattle.number.specs.Refused.Outcome.{gives, refuses}

@@ -10,7 +10,7 @@ use Rattle.number.specs.declared.Refusal.TheVariants.{Pairs}
 use Rattle.number.specs.Limits.{bytes}
 use Rattle.meaning.specs.Re.{Re}
 use Rattle.meaning.specs.Edges.{next_edge_all}
-use Rattle.meaning.specs.EdgeLaws.{edge_all_after, edge_all_within}
+use Rattle.meaning.proofs.EdgeLaws.{edge_all_after, edge_all_within}
 use Rattle.walk.specs.Walk.{Item, none, Held, nothing_held, Step, Way, come, step, row, rows}
 use Rattle.walk.specs.Walk.Step.{reached}
 use Rattle.walk.specs.StepLaws.{item, count, Came, came, reached_held, no_reach, Moved, step_moved}

@@ -4,7 +4,7 @@ use Rattle.std.specs.Prelude.{ℕ, ◌+◌, ◌-◌, ◌<◌, ◌≡◌, refl, L
 use Rattle.std.proofs.Common.{arith, sym, ap, ◌∙◌, append_assoc, length-append, drop_at, drop-drop, take-add}
 use Rattle.std.proofs.Math.Seq.{take-append_seam}
 use Rattle.cut_lines.specs.Parts.{Part}
-use Rattle.cut_lines.specs.PartLaws.{part_front}
+use Rattle.cut_lines.proofs.PartLaws.{part_front}
 use Rattle.printed.specs.declared.Handed.{Handed}
 use Rattle.printed.specs.declared.Handed.TheVariants.{All, Less}
 use Rattle.printed.specs.Handed.{Due, Next, Counts, Over, joined, EachDue}

@@ -1,11 +1,6 @@
--- What the programs put out, for every input. Definitions, in reading order: Output, the lines of a cut; Print, all that each program puts out; Sample, two texts and their lines; Prints, fifteen pairs of files and what is printed for them.
--- Main gathers the theorems that are bought; the other files prove them, and StandLaws and PrintLaws serve the code's crates too.
+-- What the programs put out, for every input. Definitions, in reading order: Output, the lines of a cut; Print, all that each program puts out; then, in proofs/, Sample and Prints.
+-- StandLaws and PrintLaws serve the code's crates too; proofs/Main.antt gathers the theorems that are bought.
 pub mod Output
 pub mod Print
 pub mod StandLaws
 pub mod PrintLaws
-pub mod Sample
-pub mod Prints
-pub mod FileLaws
-pub mod MainLaws
-pub mod Main

@@ -34,7 +34,7 @@ cut_print book text =
     cond (ltb book_file (length book)) (refused_line Input)
     (cond (ltb text_file (length text)) (refused_line Input) (cut_built book text (build_book book)))
 
--- what theorem the-words of Main says of it: the lines are those of a cut by the textbook, of the whole text, so of longest words by
+-- what theorem the_words of proofs/Main.antt says of it: the lines are those of a cut by the textbook, of the whole text, so of longest words by
 -- earliest rules, stuck exactly where no non-empty prefix matches
 pub record Printed (book : List ℕ) (b : Book) (text : Text) : Type 0 where
   pub cut : Cut

@@ -15,7 +15,7 @@ use Rattle.table.specs.Formed.{Formed}
 use Rattle.table.specs.Sheet.{read_sheet}
 use Rattle.table.specs.SheetFormed.{formed_well}
 use Rattle.table.specs.SheetLaws.{sheet_back}
-use Rattle.table.specs.SheetCalls.{filled_has_table}
+use Rattle.table.proofs.SheetCalls.{filled_has_table}
 use Rattle.table.specs.Calls.{counted, Filled, padded, load_read, load_of}
 use Rattle.table.specs.Promises.{Loads}
 use Rattle.vector.specs.Layout.{work_length}

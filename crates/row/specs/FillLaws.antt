@@ -7,7 +7,7 @@ use Rattle.number.specs.declared.Refusal.TheVariants.{States}
 use Rattle.number.specs.Limits.{bytes, states, table_cells, pool}
 use Rattle.number.specs.Lists.{written, written_more}
 use Rattle.meaning.specs.Edges.{next_edge_all}
-use Rattle.meaning.specs.EdgeLaws.{edge_all_after, edge_all_within}
+use Rattle.meaning.proofs.EdgeLaws.{edge_all_after, edge_all_within}
 use Rattle.walk.specs.Walk.{Item, step, Walked, row}
 use Rattle.walk.specs.StepLaws.{item}
 use Rattle.vector.specs.Vectors.{vector_of}

@@ -8,7 +8,7 @@ use Rattle.meaning.specs.Normal.{cat, alt, star, both, negated}
 use Rattle.meaning.specs.Limited.{Fit, ◌>>=◌, short, fit, normal_fit}
 use Rattle.meaning.specs.Limited.Fit.{Long, Fits}
 use Rattle.meaning.specs.Shape.{InShape}
-use Rattle.meaning.specs.ShapeLaws.{shape_cat, shape_formed, shape_star, shape_negated}
+use Rattle.meaning.proofs.ShapeLaws.{shape_cat, shape_formed, shape_star, shape_negated}
 use Rattle.book.specs.declared.Node.{Node}
 use Rattle.book.specs.declared.Node.TheVariants.{Nothing, Empty, Range, Cat, Alt, Star, Either, And, Not}
 use Rattle.book.specs.Book.{Rule, takes}

@@ -11,7 +11,7 @@ use Rattle.table.specs.declared.Written.{Written}
 use Rattle.table.specs.declared.Written.TheVariants.{Unwritten}
 use Rattle.table.specs.Calls.{wrote}
 use Rattle.typed.specs.Calls.{book_bytes, put_book}
-use Rattle.typed.specs.Main.{the_length}
+use Rattle.typed.proofs.Main.{the_length}
 use Rattle.typing.specs.Promises.{Types}
 use Rattle.rules_book.specs.Print.{rules_bytes, MakesBook}
 

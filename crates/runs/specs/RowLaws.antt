@@ -5,7 +5,7 @@ use Rattle.std.proofs.Common.{add-one, one-add, arith, ap, ◌∙◌, append_ass
 use Rattle.std.proofs.lemmas.List.{replicate-append-replicate}
 use Rattle.std.proofs.Math.Seq.{slice, slice-cons, slice_empty, length-slice}
 use Rattle.number.specs.Numbers.{write_number}
-use Rattle.number.specs.NumberLaws.{width_most}
+use Rattle.number.proofs.NumberLaws.{width_most}
 use Rattle.number.specs.Lists.{Writes, writes_none, writes_then}
 use Rattle.table.specs.Sheet.{Run, runs_of, write_runs, write_row}
 use Rattle.table.specs.Formed.{Ends}

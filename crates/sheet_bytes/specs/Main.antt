@@ -6,7 +6,7 @@ use Rattle.number.specs.declared.Refusal.{Refusal}
 use Rattle.number.specs.Refused.{Outcome}
 use Rattle.number.specs.Refused.Outcome.{gives, refuses}
 use Rattle.lines.specs.Lines.{refused_line}
-use Rattle.programs.specs.Main.{one_print}
+use Rattle.programs.proofs.Main.{one_print}
 use Rattle.sheet_bytes.specs.declared.Put.{Put}
 use Rattle.sheet_bytes.specs.declared.Put.TheVariants.{Sheet, Line}
 use Rattle.sheet_bytes.specs.Put.{Puts, Fronts}

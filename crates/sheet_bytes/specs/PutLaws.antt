@@ -14,8 +14,8 @@ use Rattle.table.specs.declared.Written.TheVariants.{Bytes, Unwritten}
 use Rattle.table.specs.Table.{Table}
 use Rattle.table.specs.Formed.{Formed, longest_sheet}
 use Rattle.table.specs.Sheet.{write_sheet}
-use Rattle.table.specs.SheetCalls.{write_formed}
-use Rattle.table.specs.SheetBytes.{sheet_length_lem}
+use Rattle.table.proofs.SheetCalls.{write_formed}
+use Rattle.table.proofs.SheetBytes.{sheet_length_lem}
 use Rattle.table.specs.Calls.{wrote, Output, write_of}
 use Rattle.table.specs.Promises.{WritesSheet}
 use Rattle.lines.specs.Lines.{refused_line}

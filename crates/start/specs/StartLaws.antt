@@ -8,9 +8,9 @@ use Rattle.number.specs.Limits.{rules, tree_nodes, scratch, work_cells}
 use Rattle.meaning.specs.Re.{Re, size}
 use Rattle.meaning.specs.Limited.{short, normal_fit}
 use Rattle.meaning.specs.Limited.Fit.{Long, Fits}
-use Rattle.meaning.specs.LimitedLaws.{normal_short, normal_fits_short}
+use Rattle.meaning.proofs.LimitedLaws.{normal_short, normal_fits_short}
 use Rattle.meaning.specs.Shape.{InShape}
-use Rattle.meaning.specs.ShapeLaws.{shape_normal}
+use Rattle.meaning.proofs.ShapeLaws.{shape_normal}
 use Rattle.book.specs.Expression.{expression, meant}
 use Rattle.book.specs.Places.{no_rule}
 use Rattle.book.specs.ReadLaws.{book_valid}

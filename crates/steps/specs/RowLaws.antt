@@ -7,7 +7,7 @@ use Rattle.std.proofs.Math.ListN.{get_or-append}
 use Rattle.number.specs.declared.Refusal.{Refusal}
 use Rattle.number.specs.Limits.{bytes}
 use Rattle.meaning.specs.Edges.{next_edge_all}
-use Rattle.meaning.specs.EdgeLaws.{edge_all_within}
+use Rattle.meaning.proofs.EdgeLaws.{edge_all_within}
 use Rattle.walk.specs.Walk.{Item, none, Held, Way, step, Walked, prepend, row, rows, on_from}
 use Rattle.walk.specs.Walk.Step.{stopped, reached}
 use Rattle.walk.specs.Walk.Walked.{halted, walked}

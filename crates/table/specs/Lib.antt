@@ -1,5 +1,5 @@
 -- Tables and sheets. Definitions, in reading order: Table, Sheet, Calls, Formed, Faults, Areas, Samples, Promises; the other files prove things of these.
--- Main gathers the theorems that are bought.
+-- Others stand in proofs/, where Main gathers the theorems that are bought.
 pub mod Table
 pub mod Sheet
 pub mod Calls
@@ -11,13 +11,5 @@ pub mod Promises
 pub mod SheetFormed
 pub mod SheetRuns
 pub mod SheetLaws
-pub mod SheetBytes
-pub mod SheetLongest
-pub mod SheetCalls
-pub mod AreaLaws
 pub mod TableLaws
 pub mod FillLaws
-pub mod SheetReaders
-pub mod FaultLaws
-pub mod SampleLaws
-pub mod Main

@@ -15,7 +15,7 @@ use Rattle.number.specs.Refused.Answer.{got, refused}
 use Rattle.number.specs.Numbers.{Bytes, field, write_number, NumberAt, FieldAt}
 use Rattle.number.specs.Reading.{Reader, onward}
 use Rattle.number.specs.Lists.{drop_past}
-use Rattle.number.specs.NumberLaws.{written_read, field_written, field_read}
+use Rattle.number.proofs.NumberLaws.{written_read, field_written, field_read}
 use Rattle.table.specs.Table.{Table}
 use Rattle.table.specs.Sheet.{Rows, Run, read_runs, more_runs, read_states, more_states, sheet, read_sheet}
 use Rattle.table.specs.Sheet.{runs_of, write_runs, write_row, write_states, write_sheet}

@@ -1,4 +1,4 @@
--- What the theorems of Main say of a text: the book that it is, the first line that is out of range, which answers there are, and a call.
+-- What the theorems of proofs/Main.antt say of a text: the book that it is, the first line that is out of range, which answers there are, and a call.
 -- Only definitions. The limits are those of number; what a rule matches is the book's own `expression` of it.
 use Rattle.std.specs.Prelude.{ℕ, ◌≤◌, ◌<◌, ◌≡◌, List, [], ◌∷◌, ◌++◌, map, length, drop}
 use Rattle.number.specs.declared.Refusal.{Refusal}

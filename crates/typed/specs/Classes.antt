@@ -1,5 +1,5 @@
 -- Which bytes a set holds; and which bytes POSIX gives each class in the POSIX locale, told without the ranges of Sets.
--- Also what it is for ranges to be the fewest: no fewer hold the same bytes. Main has the theorems.
+-- Also what it is for ranges to be the fewest: no fewer hold the same bytes. proofs/Main.antt has the theorems.
 use Rattle.std.specs.Prelude.{ℕ, ◌+◌, ◌≤◌, ◌≡◌, Bool, true, false, not, ◌&&◌, ◌||◌, List, [], ◌∷◌, ◌↔◌, leb, length}
 use Prim.Native.String.{String}
 use Rattle.meaning.specs.Re.{Text}

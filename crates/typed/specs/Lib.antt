@@ -1,5 +1,5 @@
 -- Rules typed as text. Definitions, in reading order: Sets, Exp, Spells, Lines; then what is computed: Scan, Reader, LineReader, Calls;
--- then what the theorems say: Bought, Classes, Worked. Main has the theorems; the other files prove them.
+-- then what the theorems say: Bought, Classes, Worked. proofs/Main.antt has the theorems; the other files, here and there, prove them.
 pub mod Sets
 pub mod Exp
 pub mod Spells
@@ -13,17 +13,8 @@ pub mod Classes
 pub mod Worked
 pub mod TestLaws
 pub mod ScanLaws
-pub mod SpelledIsRead
-pub mod ReadIsSpelled
-pub mod Completes
-pub mod LineLaws
-pub mod WrongLaws
 pub mod NewlineLaws
 pub mod ClassLaws
 pub mod PostfixLaws
 pub mod CallLaws
 pub mod AnswerLaws
-pub mod RangeLaws
-pub mod BookLaws
-pub mod WorkedLaws
-pub mod Main

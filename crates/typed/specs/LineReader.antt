@@ -1,5 +1,5 @@
 -- The reader of a whole text, byte by byte: what it has read, and where in a line it stands.
--- Main proves that it answers exactly what the grammar of Lines spells.
+-- proofs/Main.antt proves that it answers exactly what the grammar of Lines spells.
 use Rattle.std.specs.Prelude.{ℕ, zero, suc, ◌+◌, ◌*◌, cond, List, [], ◌∷◌, ◌++◌, eqb}
 use Rattle.std.proofs.Math.Option.{Option}
 use Rattle.std.proofs.Math.Option.Option.{none, some}

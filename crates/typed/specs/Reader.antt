@@ -1,5 +1,5 @@
 -- The reader of an expression, byte by byte: what it holds of the expression so far, and what each byte does to it.
--- It is the grammar of Spells once more, as what is computed; Main has the theorem between the two.
+-- It is the grammar of Spells once more, as what is computed; proofs/Main.antt has the theorem between the two.
 use Rattle.std.specs.Prelude.{ℕ, zero, suc, ◌+◌, ◌*◌, Bool, true, false, cond, ◌&&◌, List, [], ◌∷◌, ◌++◌, eqb}
 use Rattle.std.proofs.Math.Option.{Option}
 use Rattle.std.proofs.Math.Option.Option.{none, some}

@@ -27,7 +27,7 @@ use Rattle.typed.specs.ScanLaws.{after_append, after_none, typed_scan}
 use Rattle.typed.specs.LineReader.{Whole, begins, colon, on_digit, ends, stepped, turn, accept, at_first, read_lines}
 use Rattle.typed.specs.LineReader.Place.{starting, zeroed, counted, reading}
 use Rattle.typed.specs.LineReader.Whole.{whole}
-use Rattle.typed.specs.LineLaws.{steps_read, newline_read}
+use Rattle.typed.proofs.LineLaws.{steps_read, newline_read}
 use Rattle.typed.specs.TestLaws.{between_true, none_some}
 use Rattle.laid.specs.Laid.{Capped, Lays}
 use Rattle.laid.specs.Laid.Capped.{fits, over}

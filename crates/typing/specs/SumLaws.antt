@@ -31,12 +31,12 @@ use Rattle.typed.specs.Scan.Reading.{typed}
 use Rattle.typed.specs.LineReader.{read_lines, at_first}
 use Rattle.typed.specs.LineReader.Place.{starting}
 use Rattle.typed.specs.LineReader.Whole.{whole}
-use Rattle.typed.specs.LineLaws.{the_typing}
+use Rattle.typed.proofs.LineLaws.{the_typing}
 use Rattle.typed.specs.PostfixLaws.{Fits}
 use Rattle.typed.specs.Calls.{rule_of, book_of, out_of, fault, start_of, book_bytes, put_book}
 use Rattle.typed.specs.CallLaws.{AllFit, all_fit, in_of}
 use Rattle.typed.specs.CallLaws.AllFit.{more_fit}
-use Rattle.typed.specs.RangeLaws.{total_of, total_more, limits_more, limits_last, limits_none, out_of_lem}
+use Rattle.typed.proofs.RangeLaws.{total_of, total_more, limits_more, limits_last, limits_none, out_of_lem}
 use Rattle.typed.specs.Classes.{Rising}
 use Rattle.typed.specs.ClassLaws.{rises}
 use Rattle.typed.specs.AnswerLaws.{when_wrong, when_none, when_out, when_right}

@@ -7,9 +7,9 @@ use Rattle.meaning.specs.Re.{Re, size}
 use Rattle.meaning.specs.Re.Re.{Nothing}
 use Rattle.meaning.specs.Limited.{Fit, short, deriv_fit}
 use Rattle.meaning.specs.Limited.Fit.{Long, Fits}
-use Rattle.meaning.specs.LimitedLaws.{deriv_short, deriv_fits_short}
+use Rattle.meaning.proofs.LimitedLaws.{deriv_short, deriv_fits_short}
 use Rattle.meaning.specs.Shape.{InShape}
-use Rattle.meaning.specs.ShapeLaws.{shape_deriv}
+use Rattle.meaning.proofs.ShapeLaws.{shape_deriv}
 use Rattle.meaning.specs.SizeLaws.{short_size}
 use Rattle.term.specs.Cells.{term}
 use Rattle.term.specs.Area.{pending, Wasted}

@@ -11,7 +11,7 @@ use Rattle.meaning.specs.Re.Re.{Nothing}
 use Rattle.meaning.specs.Derive.{nullable}
 use Rattle.meaning.specs.Rules.{label, label_from}
 use Rattle.meaning.specs.Edges.{next_edge, next_edge_all}
-use Rattle.meaning.specs.EdgeLaws.{edge_none, edge_more, edge_all_within}
+use Rattle.meaning.proofs.EdgeLaws.{edge_none, edge_more, edge_all_within}
 use Rattle.term.specs.Cells.{term}
 use Rattle.vector.specs.Vectors.{vector_of}
 use Rattle.vector.specs.Promises.{Reads}

@@ -12,14 +12,14 @@ use Rattle.number.specs.Refused.{Outcome, row_of}
 use Rattle.number.specs.Refused.Answer.{got, refused}
 use Rattle.number.specs.Refused.Outcome.{gives, refuses}
 use Rattle.meaning.specs.Re.{Re, Text}
-use Rattle.meaning.specs.RulesMean.{names_one}
+use Rattle.meaning.proofs.RulesMean.{names_one}
 use Rattle.meaning.specs.Tests.{or_of_true}
 use Rattle.book.specs.Book.{Book}
 use Rattle.book.specs.Reads.{read_book}
 use Rattle.book.specs.Expression.{meant}
 use Rattle.table.specs.Table.{Table, lent, well_formed}
 use Rattle.table.specs.Calls.{padded, cramped}
-use Rattle.table.specs.SheetCalls.{filled_has_table}
+use Rattle.table.proofs.SheetCalls.{filled_has_table}
 use Rattle.cutting.specs.Steps.{label_of}
 use Rattle.vector.specs.Layout.{work_length}
 use Rattle.walk.specs.Texts.{NotLater}

@@ -6,10 +6,10 @@ use Rattle.std.proofs.lemmas.Bool.{eqb-false}
 use Rattle.number.specs.Numbers.{Bytes}
 use Rattle.meaning.specs.Re.{Re, Text}
 use Rattle.meaning.specs.Rules.{Names, label_after}
-use Rattle.meaning.specs.RulesMean.{names_after, names_one}
+use Rattle.meaning.proofs.RulesMean.{names_after, names_one}
 use Rattle.meaning.specs.Words.{Found, First, FirstWord}
 use Rattle.meaning.specs.Words.Found.{Stuck, Word as Found·word}
-use Rattle.meaning.specs.WordsMean.{first_one, first_alike, first_whole}
+use Rattle.meaning.proofs.WordsMean.{first_one, first_alike, first_whole}
 use Rattle.table.specs.Table.{Table}
 use Rattle.cutting.specs.declared.Word.{Word}
 use Rattle.cutting.specs.Steps.{label_of, Labels, FirstBy, first_by}

@@ -31,7 +31,7 @@ use Rattle.verdict.specs.VerdictLaws.{same_alike, same_exactly, shown_differs, l
 use Rattle.verdict.specs.CallLaws.{text_one, short_room, ill_formed, book_refused, call_answered, own_call}
 use Rattle.verdict.specs.Sample.{WorkedSheets, worked_sheets, WorkedAnswers, worked_answers, WorkedRefusals, worked_refusals}
 
--- a text has exactly one cut by a book's rules, as it has by a table (cutting, the-cut)
+-- a text has exactly one cut by a book's rules, as it has by a table (cutting, the_cut)
 pub the_book_cut : (rs : List Re) (room at : ℕ) (text : Text) (x : Cut) → Cuts (FirstWord rs) room at text x ↔ (cut_by (first_word rs) room at text ≡ x)
 the_book_cut rs = cut_exactly (by_rules rs)
 
@@ -49,11 +49,11 @@ module _ (file : List ℕ) (b : Book) (after : ℕ) (t : Table) (read : read_boo
   the_difference = shown_differs file b after t read
 
   -- it declines exactly where a limit is passed, by the first text that passes one: Long, Pairs or Pool, tested in this order, by row and place.
-  -- The place is the number of the pair that this text leaves, which is one (walk, the-number); and it answers exactly where no text passes a limit
+  -- The place is the number of the pair that this text leaves, which is one (walk, the_number); and it answers exactly where no text passes a limit
   pub the_limits : Limits (held_pairs (meant b) t) (row_of (compare_book file t))
   the_limits = limits_at file b after t read
 
--- its walk's own refusal is neither Long nor Pool, so that walk's `the-stops` tells where each of the three comes
+-- its walk's own refusal is neither Long nor Pool, so that walk's `the_stops` tells where each of the three comes
 pub the_own_refusal : (t : Table) → OwnRefusal (beside t)
 the_own_refusal t =
     record {

@@ -10,7 +10,7 @@ use Rattle.number.specs.Refused.Answer.{got, refused}
 use Rattle.number.specs.Refused.Outcome.{gives, refuses}
 use Rattle.meaning.specs.Re.{Re, Text}
 use Rattle.meaning.specs.Rules.{label_after}
-use Rattle.meaning.specs.RulesMean.{names_after}
+use Rattle.meaning.proofs.RulesMean.{names_after}
 use Rattle.book.specs.Book.{Book}
 use Rattle.book.specs.Reads.{read_book}
 use Rattle.book.specs.Expression.{meant}

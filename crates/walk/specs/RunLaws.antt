@@ -9,7 +9,7 @@ use Rattle.number.specs.declared.Refusal.{Refusal}
 use Rattle.meaning.specs.Re.{Re}
 use Rattle.meaning.specs.Limited.{Fit, deriv_fit}
 use Rattle.meaning.specs.Edges.{next_edge_all}
-use Rattle.meaning.specs.EdgeLaws.{row_fit_edge}
+use Rattle.meaning.proofs.EdgeLaws.{row_fit_edge}
 use Rattle.walk.specs.Vectors.{Vector, front, derived, same_vector}
 use Rattle.walk.specs.Vectors.Vector.{TooLong, Terms}
 use Rattle.walk.specs.Walk.{Item, none, Held, same_pair, number_in, Step, Way, added, come, after, come_by, step, Walked, prepend, row}

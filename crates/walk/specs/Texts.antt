@@ -1,6 +1,6 @@
 -- The order of texts: a shorter text comes sooner; of two texts of one length, the one with the lower byte where they first differ.
 -- TextLaws proves what the walk needs of it.
-use Rattle.std.specs.Prelude.{ℕ, ◌<◌, ◌≡◌, List, [], ◌∷◌, ◌⊎◌, length}
+use Rattle.std.specs.Prelude.{ℕ, ◌<◌, ◌≡◌, ◌∷◌, length}
 use Rattle.meaning.specs.Re.{Text}
 
 -- lower in byte order, for texts of one length

@@ -11,7 +11,7 @@ use Rattle.meaning.specs.Normal.{normal}
 use Rattle.meaning.specs.Derive.{deriv}
 use Rattle.meaning.specs.Limited.{Fit, deriv_fit, normal_fit}
 use Rattle.meaning.specs.Limited.Fit.{Long, Fits}
-use Rattle.meaning.specs.LimitedLaws.{deriv_short, normal_short}
+use Rattle.meaning.proofs.LimitedLaws.{deriv_short, normal_short}
 use Rattle.meaning.specs.Tests.{clash, and_true, true_and}
 use Rattle.walk.specs.Vectors.{Vector, front, derived, normalised, same_term, same_vector}
 use Rattle.walk.specs.Vectors.Vector.{TooLong, Terms}

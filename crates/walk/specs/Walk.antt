@@ -1,6 +1,6 @@
 -- The walk over pairs of a sheet state and a vector, items in the order found, bytes rising: building walks beside a sheet of one state.
 -- One step, in its order: Long; for a new item the limit of items, with its refusal; then Pool. A place is the number told for the item being left.
-use Rattle.std.specs.Prelude.{ℕ, zero, suc, Bool, true, false, cond, ◌&&◌, List, [], ◌∷◌, ◌++◌, ltb, leb, eqb, length, get_or}
+use Rattle.std.specs.Prelude.{ℕ, zero, suc, Bool, cond, ◌&&◌, List, [], ◌∷◌, ◌++◌, ltb, leb, eqb, length, get_or}
 use Rattle.number.specs.declared.Refusal.{Refusal}
 use Rattle.number.specs.declared.Refusal.TheVariants.{Long, Pool}
 use Rattle.number.specs.Limits.{bytes}

@@ -15,7 +15,7 @@ use Rattle.number.specs.Numbers.{Bytes}
 use Rattle.meaning.specs.Re.{Re, Text}
 use Rattle.meaning.specs.Rules.{derive_all, derive_by, start}
 use Rattle.meaning.specs.Words.{reach}
-use Rattle.walk.specs.Walk.{Item, Held, number_in, Step, Way, added, come, step, Walked, prepend, row, rows}
+use Rattle.walk.specs.Walk.{Item, Held, number_in, Step, Way, added, step, Walked, prepend, row, rows}
 use Rattle.walk.specs.Walk.Step.{stopped, reached}
 use Rattle.walk.specs.Walk.Walked.{halted, walked}
 use Rattle.walk.specs.StepLaws.{item, count, Pair, added_old, added_new, added_count, each_added, pairs_added, Moved, step_moved, number_after, Fits, step_fits}

@@ -1,7 +1,7 @@
 -- A walk with wider limits goes as the narrower one does, until that is refused by a limit: so what was answered stays as it was.
 -- The two differ in nothing but how many items and terms they may hold.
-use Prim.Native.Nat.{ℕ, zero, suc, ◌+◌, ◌<◌, ◌≤◌}
-use Rattle.std.proofs.Common.{arith, sym, ap, ◌∙◌, subst, le-ltb}
+use Prim.Native.Nat.{ℕ, zero, suc, ◌+◌, ◌≤◌}
+use Rattle.std.proofs.Common.{arith, sym, ap, ◌∙◌, le-ltb}
 use Rattle.std.specs.Prelude.{◌≡◌, Bool, true, false, cond, ltb}
 use Rattle.std.proofs.Math.Path.{refl}
 use mathlib.Core.List.{List, [], ◌∷◌}

@@ -7,7 +7,7 @@ use Rattle.std.proofs.Math.ListN.{length-append}
 use Rattle.std.proofs.Math.Seq.{slice, slice-cons, slice_empty, length-slice, drop-drop}
 use Rattle.number.specs.Limits.{sheet_version, bytes}
 use Rattle.number.specs.Numbers.{write_number}
-use Rattle.number.specs.NumberLaws.{width_most}
+use Rattle.number.proofs.NumberLaws.{width_most}
 use Rattle.number.specs.Lists.{Writes, writes_none, writes_then}
 use Rattle.table.specs.Table.{lent}
 use Rattle.table.specs.Sheet.{write_row, write_states, write_sheet}

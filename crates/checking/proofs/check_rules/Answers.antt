@@ -6,7 +6,7 @@ use mathlib.Core.Path.{◌≡◌, refl, sym, ap, ◌∙◌}
 use borrow.Author.Rules.{rules}
 use Rattle.number.specs.Limits.{nodes}
 use Rattle.number.specs.Numbers.{taken}
-use Rattle.number.specs.NumberLaws.{field_read}
+use Rattle.number.proofs.NumberLaws.{field_read}
 use Rattle.book.specs.AnswerLaws.{got_is, value_told}
 use Rattle.book.specs.CodeLaws.{counted, HeadRead, rules_none, rules_kind_refused, rules_count_refused, rules_over}
 use Rattle.book.specs.CodeLaws.{rules_nodes_refused, rules_rest_refused, rules_rest_got}

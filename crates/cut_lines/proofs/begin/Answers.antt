@@ -5,7 +5,7 @@ use mathlib.Core.Path.{sym, ap, ◌∙◌}
 use Rattle.programs.specs.Print.{cut_built}
 use Rattle.programs.specs.PrintLaws.{cut_no_book, cut_no_text, cut_both}
 use Rattle.programs.specs.StandLaws.{build_refused, build_gave}
-use Rattle.cut_lines.specs.PartLaws.{begins_told, begins_states}
+use Rattle.cut_lines.proofs.PartLaws.{begins_told, begins_states}
 use Rattle.cut_lines.proofs.begin.Goals as goal
 
 pub returns-then-book-gt-BOOK_FILE : goal.returns-then-book-gt-BOOK_FILE

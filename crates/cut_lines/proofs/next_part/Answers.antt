@@ -5,7 +5,7 @@ use native.Mathlib.Omega.{arith}
 use lib.ListN.{length}
 use Rattle.cutting.specs.Flat.{record_cells}
 use Rattle.turns.specs.Turned.{kind_by}
-use Rattle.cut_lines.specs.PartLaws.{turn_goes}
+use Rattle.cut_lines.proofs.PartLaws.{turn_goes}
 use Rattle.cut_lines.proofs.next_part.Goals as goal
 
 pub returns : goal.returns

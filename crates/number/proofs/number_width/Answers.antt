@@ -1,8 +1,8 @@
 -- `number::number_width` meets its contract: each answer is the length of what is written at that width.
 -- Assumes nothing.
 use mathlib.Core.Path.{sym}
-use Rattle.number.specs.NumberLaws.{width_is}
-use Rattle.number.specs.NumberLaws.Written.{one, two, three}
+use Rattle.number.proofs.NumberLaws.{width_is}
+use Rattle.number.proofs.NumberLaws.Written.{one, two, three}
 use Rattle.number.proofs.number_width.Goals as goal
 
 pub returns-then-n-lt-GROUP : goal.returns-then-n-lt-GROUP

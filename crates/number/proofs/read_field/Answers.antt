@@ -4,8 +4,7 @@ use mathlib.Core.Path.{◌≡◌, sym, ap, ◌∙◌}
 use Rattle.number.specs.Numbers.{read_number, taken}
 use Rattle.number.specs.Refused.Answer.{got}
 use Rattle.number.specs.Promises.{reads_field}
-use Rattle.number.specs.NumberLaws.{field_refused, field_low, field_high, field_got}
-use borrow.Author.Rules.{rules}
+use Rattle.number.proofs.NumberLaws.{field_refused, field_low, field_high, field_got}
 use Rattle.number.proofs.read_field.Goals as goal
 
 pub returns-in_default : goal.returns-in_default

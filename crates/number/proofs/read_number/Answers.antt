@@ -8,9 +8,8 @@ use Rattle.number.specs.declared.Grouped.{Grouped}
 use Rattle.number.specs.Refused.{Answer}
 use Rattle.number.specs.Numbers.{taken}
 use Rattle.number.specs.Promises.{ReadsNumber, reads_number}
-use Rattle.number.specs.NumberLaws.{Way, way_read, way_groups}
-use Rattle.number.specs.NumberLaws.Way.{none, one, half, two, most, three, over}
-use borrow.Author.Rules.{rules}
+use Rattle.number.proofs.NumberLaws.{Way, way_read, way_groups}
+use Rattle.number.proofs.NumberLaws.Way.{none, one, half, two, most, three, over}
 use Rattle.number.proofs.read_number.Goals as goal
 
 -- what is answered is what that way answers, and the groups are those that it read

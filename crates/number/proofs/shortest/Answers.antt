@@ -1,7 +1,7 @@
 -- `number::shortest` meets its contract: each arm is one law of the last group.
 -- Assumes nothing.
 use mathlib.Core.Path.{sym}
-use Rattle.number.specs.NumberLaws.{several_none, several_some}
+use Rattle.number.proofs.NumberLaws.{several_none, several_some}
 use Rattle.number.proofs.shortest.Goals as goal
 
 pub returns-then-last-eq0 : goal.returns-then-last-eq0

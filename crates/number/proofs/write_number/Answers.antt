@@ -7,9 +7,8 @@ use lib.ListN.{length, length-set}
 use Rattle.number.specs.Limits.{group, two_groups}
 use Rattle.number.specs.Numbers.{write_number}
 use Rattle.number.specs.Lists.{written, stored_one, stored_two, stored_three}
-use Rattle.number.specs.NumberLaws.{way_write, width_is, width_some}
-use Rattle.number.specs.NumberLaws.Written.{one, two, three}
-use borrow.Author.Rules.{rules}
+use Rattle.number.proofs.NumberLaws.{way_write, width_is, width_some}
+use Rattle.number.proofs.NumberLaws.Written.{one, two, three}
 use Rattle.number.proofs.write_number.Goals as goal
 
 pub bounds-out-at : goal.bounds-out-at

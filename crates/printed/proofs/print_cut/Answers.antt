@@ -1,5 +1,5 @@
 -- What the beginning put is all, or nothing, and then the turns print the whole.
-use Rattle.cut_lines.specs.PartLaws.{print_some}
+use Rattle.cut_lines.proofs.PartLaws.{print_some}
 use Rattle.printed.specs.HandedLaws.{over_none, over_due, over_last}
 use Rattle.printed.proofs.print_cut.Goals as goal
 

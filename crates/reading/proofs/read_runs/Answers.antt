@@ -9,7 +9,7 @@ use lib.ListN.{length, replicate, length-replicate}
 use Rattle.number.specs.Limits.{bytes}
 use Rattle.number.specs.Refused.Answer.{got}
 use Rattle.number.specs.Numbers.{field, taken}
-use Rattle.number.specs.NumberLaws.{field_read}
+use Rattle.number.proofs.NumberLaws.{field_read}
 use Rattle.table.specs.Sheet.{more_runs}
 use Rattle.reading.specs.ReadingLaws.{runs_low, runs_end, runs_no_length, runs_long, runs_no_target, runs_same, runs_more}
 use Rattle.reading.specs.ReadingLaws.{row_stopped, row_end, row_more}

@@ -5,10 +5,10 @@ use mathlib.Core.Path.{◌≡◌, refl, sym, ap, ◌∙◌}
 use Rattle.number.specs.Limits.{sheet_version, states}
 use Rattle.number.specs.Refused.Answer.{got}
 use Rattle.number.specs.Numbers.{field, taken}
-use Rattle.number.specs.NumberLaws.{field_read}
+use Rattle.number.proofs.NumberLaws.{field_read}
 use Rattle.table.specs.Sheet.{Rows, read_states}
 use Rattle.reading.specs.ReadingLaws.{Got, rows_got, rows_refused, table_stopped, table_got}
-use Rattle.table.specs.SheetReaders.{sheet_no_version, sheet_no_count, sheet_no_states, sheet_tail, sheet_got}
+use Rattle.table.proofs.SheetReaders.{sheet_no_version, sheet_no_count, sheet_no_states, sheet_tail, sheet_got}
 use Rattle.reading.proofs.read_sheet.Goals as goal
 
 pub returns-in_default : goal.returns-in_default

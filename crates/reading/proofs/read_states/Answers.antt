@@ -9,7 +9,7 @@ use lib.ListN.{length, length-set}
 use Rattle.number.specs.Limits.{rules as limit, bytes}
 use Rattle.number.specs.Refused.Answer.{got}
 use Rattle.number.specs.Numbers.{field, taken}
-use Rattle.number.specs.NumberLaws.{field_read}
+use Rattle.number.proofs.NumberLaws.{field_read}
 use Rattle.table.specs.Sheet.{read_runs, more_states}
 use Rattle.reading.specs.ReadingLaws.{runs_cover, RowGot, row_got, row_refused}
 use Rattle.reading.specs.ReadingLaws.{states_end, states_no_label, states_no_count, states_no_row, states_more}

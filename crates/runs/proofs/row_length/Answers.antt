@@ -2,7 +2,7 @@
 -- Assumes nothing.
 use native.Mathlib.Omega.{arith}
 use lib.Seq.{slice}
-use Rattle.number.specs.NumberLaws.{width_most}
+use Rattle.number.proofs.NumberLaws.{width_most}
 use Rattle.runs.specs.RowLaws.{row_is, part_few, part_short}
 use Rattle.runs.proofs.row_length.Goals as goal
 

@@ -4,7 +4,7 @@ use Prim.Native.Nat.{◌*◌}
 use native.Mathlib.Omega.{arith}
 use lib.ListN.{take}
 use Rattle.number.specs.Limits.{sheet_version, bytes}
-use Rattle.number.specs.NumberLaws.{width_most}
+use Rattle.number.proofs.NumberLaws.{width_most}
 use Rattle.writing.specs.WritingLaws.{part_states_short, sheet_is}
 use Rattle.writing.proofs.sheet_length.Goals as goal
 
