@@ -25,10 +25,8 @@ fn cell(rt: &HostRuntime, records: &[usize], i: usize) {
 
 fn cells(rt: &HostRuntime, records: &[usize]) {
     say::text(rt, b", cells");
-    let mut i: usize = 0;
-    while i < SHOWN {
+    for i in 0..SHOWN {
         cell(rt, records, i);
-        i += 1;
     }
     say::text(rt, b"\n");
 }

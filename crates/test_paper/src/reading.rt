@@ -34,12 +34,10 @@ pub(crate) fn read(rt: &HostRuntime, name: &[u8], buffer: &mut [u8]) -> usize
 pub(crate) fn find(text: &[u8], from: usize, byte: u8) -> usize
     ensures { result ≤ length text.now }
 {
-    let mut i = from;
-    while i < text.len() {
+    for i in from..text.len() {
         if text[i] == byte {
             return i;
         }
-        i += 1;
     }
     text.len()
 }
@@ -159,8 +157,7 @@ pub(crate) fn fill(line: &[u8], from: usize, area: &mut [u8]) -> Got
         times: 0,
         start: 0,
     };
-    let mut k: usize = 0;
-    while k < STEPS {
+    for _ in 0..STEPS {
         let i = spot.next;
         if line.len() <= i {
             return Got {
@@ -177,7 +174,6 @@ pub(crate) fn fill(line: &[u8], from: usize, area: &mut [u8]) -> Got
         }
         spot.next = i + 1;
         spot = step(line, c, spot, area);
-        k += 1;
     }
     Got {
         value: spot.at,
