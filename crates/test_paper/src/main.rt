@@ -4,12 +4,12 @@
 
 ghost use Rattle.std.specs.Prelude.{◌≡◌, length};
 
+use cases::Case;
 use number::limits::{STATES, TABLE_CELLS};
-use reading::Case;
 
 mod bytes;
+mod cases;
 mod cuts;
-mod reading;
 mod say;
 mod tables;
 
@@ -58,9 +58,9 @@ fn run_case(rt: &HostRuntime, line: &[u8], from: usize, case: Case) {
     let mut first = [0u8; FIRST];
     let mut second = large_room();
     let mut third = room();
-    let a = reading::fill(line, from, &mut first);
-    let b = reading::fill(line, a.next, &mut second);
-    let c = reading::fill(line, b.next, &mut third);
+    let a = cases::fill(line, from, &mut first);
+    let b = cases::fill(line, a.next, &mut second);
+    let c = cases::fill(line, b.next, &mut third);
     let i = a.value;
     let j = b.value;
     let k = c.value;
@@ -69,7 +69,7 @@ fn run_case(rt: &HostRuntime, line: &[u8], from: usize, case: Case) {
 
 // A case's label is printed, with its colon and a space; a line without a label, or with a mark before it, is none.
 fn run_line(rt: &HostRuntime, line: &[u8]) {
-    let colon = reading::find(line, 0, b':');
+    let colon = cases::find(line, 0, b':');
     if line.len() < colon + 2 {
         return;
     }
@@ -78,13 +78,13 @@ fn run_line(rt: &HostRuntime, line: &[u8]) {
         return;
     }
     say::text(rt, &line[0..colon + 2]);
-    run_case(rt, line, colon, reading::case_of(line, letter, colon + 2));
+    run_case(rt, line, colon, cases::case_of(line, letter, colon + 2));
 }
 
 fn run_lines(rt: &HostRuntime, text: &[u8]) {
     let mut at: usize = 0;
     while at < text.len() {
-        let stop = reading::find(text, at, b'\n');
+        let stop = cases::find(text, at, b'\n');
         if stop < at {
             return;
         }
@@ -95,6 +95,6 @@ fn run_lines(rt: &HostRuntime, text: &[u8]) {
 
 fn main(rt: HostRuntime) {
     let mut file = room();
-    let end = reading::read(&rt, b"cases", &mut file);
+    let end = cases::read(&rt, b"cases", &mut file);
     run_lines(&rt, &file[0..end]);
 }

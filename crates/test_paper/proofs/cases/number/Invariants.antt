@@ -1,6 +1,6 @@
 -- At each turn a byte of the line fewer is left.
 use Rattle.std.proofs.Common.{length, ◌-◌}
-use Rattle.test_paper.proofs.reading.number.Given as goal
+use Rattle.test_paper.proofs.cases.number.Given as goal
 
 abbrev pub decreases-loop-i : goal.decreases-loop-i
 decreases-loop-i l = length l.line - l.i
