@@ -1,5 +1,5 @@
 -- Each turn's part is due, and goes from what is left to what was handed over.
-use Rattle.std.proofs.Common.{arith, ◌+◌, ◌*◌, ◌≤◌, ◌≡◌, length}
+use Rattle.std.proofs.Common.{arith, ◌+◌, ◌≡◌}
 use Rattle.turns.specs.Turned.{kind_by}
 use Rattle.cut_lines.specs.PartLaws.{rest_some}
 use Rattle.printed.specs.HandedLaws.{front_length, over_due, over_more, over_less, over_last}
@@ -20,7 +20,7 @@ print_next-requires-in-Onward-clause-due g c = over_due c.in-Onward.ensures.goes
 pub returns-in-Less : goal.returns-in-Less
 returns-in-Less g c =
     let less = over_less c.loop-end.invariant.5
-        (rest_some (kind_by c.args.kinds.now) c.args.count c.args.labels.now c.args.targets.now c.args.text.now c.loop-end.from c.loop-end.sum) in
+    (rest_some (kind_by c.args.kinds.now) c.args.count c.args.labels.now c.args.targets.now c.args.text.now c.loop-end.from c.loop-end.sum) in
     omega (arith, c.in-Less.ensures, less)
 
 pub loop-end-preserved : goal.loop-end-preserved

@@ -11,7 +11,7 @@ invariant-loop-end g l =
     (length l.records ≡ length l.initial.records) × (length l.out ≡ length l.initial.out)
     × (l.from ≤ length l.initial.text) × (l.sum ≤ l.from) × (l.handed ≤ cut_room * l.from)
     × Over (cut_print l.initial.book l.initial.text) l.handed
-        (rest_lines (kind_by l.initial.kinds) l.initial.count l.initial.labels l.initial.targets l.initial.text l.from l.sum)
+    (rest_lines (kind_by l.initial.kinds) l.initial.count l.initial.labels l.initial.targets l.initial.text l.from l.sum)
 
 abbrev pub decreases-loop-end : goal.decreases-loop-end
 decreases-loop-end g l = length l.initial.text - l.from
