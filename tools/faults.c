@@ -6,10 +6,10 @@ long syscall(long number, ...);
 char *getenv(const char *name);
 int *__errno_location(void);
 
-enum { SYS_READ = 0, SYS_WRITE = 1, SYS_OPEN = 2, SYS_CLOSE = 3, SYS_MMAP = 9, SYS_ACCESS = 21, SYS_GETPID = 39, SYS_KILL = 62, SYS_FSYNC = 74,
-       SYS_RENAME = 82, SYS_UNLINK = 87, SYS_EXIT_GROUP = 231 };
-enum { READ_WRITE = 2, PROT_BOTH = 3, MAP_SHARED = 1, SIGKILL = 9 };
-enum { ANY, OPEN, READ, WRITE, FSYNC, CLOSE, RENAME, UNLINK, ACCESS, KINDS };
+enum { SYS_READ = 0, SYS_WRITE = 1, SYS_OPEN = 2, SYS_CLOSE = 3, SYS_MMAP = 9, SYS_GETPID = 39, SYS_KILL = 62, SYS_FSYNC = 74, SYS_RENAME = 82,
+       SYS_UNLINK = 87, SYS_EXIT_GROUP = 231, SYS_STATX = 332 };
+enum { READ_WRITE = 2, PROT_BOTH = 3, MAP_SHARED = 1, SIGKILL = 9, MODE = 28 };
+enum { ANY, OPEN, READ, WRITE, FSYNC, CLOSE, RENAME, UNLINK, STAT, KINDS };
 
 /* What befalls a call: 0 for nothing, an error by its number, or one of these; from DONE on, an error though the call is done (rename, unlink). */
 enum { SHORT = -1, ZERO = -2, KILLED = -3, DONE = 1000 };
@@ -100,10 +100,13 @@ int open(const char *name, int flags, unsigned mode)
     return (int)told(OPEN, -1, flags, name, "", struck, struck > 0 ? fail(struck) : syscall(SYS_OPEN, name, flags, mode));
 }
 
-int access(const char *name, int mode)
+/* Logged is, in the result's place, the mode that was found, by which a program goes on. It stands MODE bytes behind the start of what is found. */
+int statx(int folder, const char *name, int flags, unsigned mask, void *found)
 {
-    long struck = fault(ACCESS);
-    return (int)told(ACCESS, -1, mode, name, "", struck, struck > 0 ? fail(struck) : syscall(SYS_ACCESS, name, mode));
+    long struck = fault(STAT), result = struck > 0 ? fail(struck) : syscall(SYS_STATX, folder, name, flags, mask, found);
+    long mode = result < 0 ? -1 : *(unsigned short *)((char *)found + MODE);
+    told(STAT, folder, flags, name, "", struck, mode);
+    return (int)result;
 }
 
 int fsync(int fd)
