@@ -58,7 +58,7 @@ returns-then-next-gt-POOL c =
     record {
       steps = answer_pool c.args.cells.now c.args.n c.args.top c.args.count c.args.limit c.args.i c.args.place c.args.byte c.args.sheet c.args.full c.requires.ready
           c.load-v.result.at c.load-v.ensures _ c.derive_vector-derived.ensures.spared
-          _ _ (c.derive_vector-derived.ensures.done c.if-derived.false) _ c.find-at.ensures c.if-at-count.false (omega (arith, c.if-limit-count.false)) c.if-next-gt-POOL.true;
+          _ _ (c.derive_vector-derived.ensures.done c.if-derived.false) _ c.find-at.ensures c.if-at-count.false (omega arith) c.if-next-gt-POOL.true;
       follows = tt;
     }
 
