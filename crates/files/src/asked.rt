@@ -37,7 +37,7 @@ pub(crate) fn patiently<T: Drop, A: Fn() -> io::Result<T>>(ask: A) -> io::Result
 }
 
 // Opens the file of a name for reading.
-pub fn open<F: Files>(files: &F, name: &[u8]) -> io::Result<F::File> {
+pub(crate) fn open<F: Files>(files: &F, name: &[u8]) -> io::Result<F::File> {
     let path = text(name)?;
     patiently(|| File::open(files, path))
 }

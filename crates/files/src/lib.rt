@@ -5,6 +5,7 @@
 ghost use Rattle.std.specs.Prelude.{◌<◌, ◌≤◌, ◌≡◌, ◌^◌, IfOk, IsErr, length, take};
 ghost use Rattle.files.specs.Within.{Within, Turned, AnswersTo};
 
+use asked::open;
 use std::io;
 use std::io::{ErrorKind, Read, Write};
 use std::rt::Files;
@@ -13,7 +14,6 @@ use transfer::{Answer, EINTR, INTERRUPTIONS, Transfer};
 mod asked;
 mod beside;
 
-pub use asked::open;
 pub use beside::save;
 
 // What a call of the library's came to, by what it returned.

@@ -11,6 +11,8 @@ use cutting::{Ended, RECORD_CELLS};
 use lines::LINE_ROOM;
 use number::Refusal;
 use number::limits::{BOOK_FILE, SHOWN_TEXT, STATES, TABLE_CELLS};
+use std::fs::File;
+use std::str;
 use table::{Counted, LONGEST_SHEET, Written};
 use vector::layout::WORK_LENGTH;
 use verdict::Compared;
@@ -46,14 +48,20 @@ fn work_room() -> [u64; WORK_LENGTH]
 fn read_case(rt: &HostRuntime, name: &[u8], buffer: &mut [u8]) -> usize
     ensures { result ≤ length buffer.new }
 {
-    match files::open(rt, name) {
+    let Ok(path) = str::from_utf8(name) else {
+        return 0;
+    };
+    match File::open(rt, path) {
         Ok(file) => files::read_all(Ok(file), buffer),
         Err(_) => 0,
     }
 }
 
 fn is_stored(rt: &HostRuntime, name: &[u8]) -> bool {
-    files::open(rt, name).is_ok()
+    match str::from_utf8(name) {
+        Ok(path) => File::open(rt, path).is_ok(),
+        Err(_) => false,
+    }
 }
 
 fn digit(n: usize) -> u8 {

@@ -2,6 +2,9 @@
 // What is wrong in the file shows as a wrong line of output; nothing here goes past a line or an area.
 ghost use Rattle.std.specs.Prelude.{◌≡◌, ◌<◌, ◌≤◌, length};
 
+use std::fs::File;
+use std::str;
+
 // More than any area takes.
 const STEPS: usize = 1000000;
 
@@ -24,7 +27,10 @@ pub(crate) struct Case {
 pub(crate) fn read(rt: &HostRuntime, name: &[u8], buffer: &mut [u8]) -> usize
     ensures { result ≤ length buffer.new }
 {
-    match files::open(rt, name) {
+    let Ok(path) = str::from_utf8(name) else {
+        return 0;
+    };
+    match File::open(rt, path) {
         Ok(file) => files::read_all(Ok(file), buffer),
         Err(_) => 0,
     }
