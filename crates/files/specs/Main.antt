@@ -1,5 +1,5 @@
 -- What read and write may answer, and what a reader hands on of it: the theorems that are bought.
--- To believe them, read Within, with answer_of, run and taken_of of transfer, and Moved of the system's contracts.
+-- To believe them, read Within, with answer_of, run and taken_of of transfer, and MovedOf below, what a system's call that moves bytes may answer.
 use Rattle.std.specs.Prelude.{ℕ, zero, suc, ◌+◌, ◌-◌, ◌<◌, ◌≤◌, ◌≡◌, refl, List, [], ◌∷◌, map, ℤ, pos, negsuc}
 use Rattle.std.proofs.Common.{arith, sym, ap, subst, ◌∙◌}
 use Rattle.transfer.specs.declared.Answer.{Answer}

@@ -8,7 +8,7 @@ ghost use Rattle.transfer.specs.Answers.{answer_of, go_on, taken_of, is_all};
 // The number of the error of a call that a signal interrupted.
 pub const EINTR: i32 = 4;
 
-// So often a call on one file is tried again where a signal interrupted it; since a loop must end, the next interruption is a failure.
+// So often a read or a write of one file is tried again where a signal interrupted it; since a loop must end, the next interruption is a failure.
 pub const INTERRUPTIONS: u32 = 1_000_000;
 
 // What one call came to: it moved so many bytes, there were none to move, a signal came first, or it failed.

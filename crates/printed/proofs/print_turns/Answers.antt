@@ -1,5 +1,5 @@
 -- Each turn's part is due, and goes from what is left to what was handed over.
-use Rattle.std.proofs.Common.{arith, ◌+◌, ◌*◌, ◌≤◌, ◌≡◌, length}
+use Rattle.std.proofs.Common.{arith, ◌+◌, ◌≡◌}
 use Rattle.turns.specs.Turned.{kind_by}
 use Rattle.cut_lines.proofs.PartLaws.{rest_some}
 use Rattle.printed.specs.HandedLaws.{front_length, over_due, over_more, over_less, over_last}
