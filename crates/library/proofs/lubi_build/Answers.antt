@@ -1,6 +1,5 @@
 -- `library::lubi_build` meets its contract: what `build` answers and leaves, packed.
 -- Assumes nothing.
-use borrow.Author.Rules.{rules}
 use mathlib.Core.Path.{ap, ◌∙◌}
 use Rattle.packed.specs.Packed.{packed, told_count}
 use Rattle.library.proofs.lubi_build.Goals as goal

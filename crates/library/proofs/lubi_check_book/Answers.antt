@@ -1,6 +1,5 @@
 -- `library::lubi_check_book` meets its contract: what `check_book` answers, packed.
 -- Assumes nothing.
-use borrow.Author.Rules.{rules}
 use mathlib.Core.Path.{ap, ◌∙◌}
 use Rattle.packed.specs.Packed.{packed, told_size}
 use Rattle.library.proofs.lubi_check_book.Goals as goal

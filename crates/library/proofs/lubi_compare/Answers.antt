@@ -1,6 +1,5 @@
 -- `library::lubi_compare` meets its contract: what `compare_book` answers and leaves, packed.
 -- Assumes nothing.
-use borrow.Author.Rules.{rules}
 use mathlib.Core.Path.{ap, ◌∙◌}
 use Rattle.packed.specs.Packed.{packed, told_compared}
 use Rattle.library.proofs.lubi_compare.Goals as goal

@@ -1,6 +1,5 @@
 -- `library::lubi_cut_from` meets its contract: what `cut_from` answers and leaves, packed.
 -- Assumes nothing.
-use borrow.Author.Rules.{rules}
 use mathlib.Core.Path.{ap, ◌∙◌}
 use Rattle.packed.specs.Packed.{packed, told_report}
 use Rattle.library.proofs.lubi_cut_from.Goals as goal

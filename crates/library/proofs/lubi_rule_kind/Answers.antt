@@ -2,7 +2,6 @@
 -- Assumes nothing.
 use mathlib.Core.Path.{ap, ◌∙◌}
 use Rattle.packed.specs.Packed.{packed, told_kind}
-use borrow.Author.Rules.{rules}
 use Rattle.library.proofs.lubi_rule_kind.Goals as goal
 
 pub returns : goal.returns

@@ -1,6 +1,5 @@
 -- `library::lubi_type` meets its contract: what `type_rules` answers and leaves, packed.
 -- Assumes nothing.
-use borrow.Author.Rules.{rules}
 use mathlib.Core.Path.{ap, ◌∙◌}
 use Rattle.packed.specs.Packed.{packed, told_count}
 use Rattle.library.proofs.lubi_type.Goals as goal

@@ -2,7 +2,6 @@
 -- Assumes nothing.
 use mathlib.Core.Path.{sym, ap, ◌∙◌}
 use Rattle.packed.specs.Packed.{packed, tested, told_count}
-use borrow.Author.Rules.{rules}
 use Rattle.library.proofs.lubi_well_formed.Goals as goal
 
 pub returns-then-well_formed : goal.returns-then-well_formed

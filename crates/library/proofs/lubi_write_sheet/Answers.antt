@@ -1,6 +1,5 @@
 -- `library::lubi_write_sheet` meets its contract: what `write_sheet` answers and leaves, packed.
 -- Assumes nothing.
-use borrow.Author.Rules.{rules}
 use mathlib.Core.Path.{ap, ◌∙◌}
 use Rattle.packed.specs.Packed.{packed, told_count}
 use Rattle.library.proofs.lubi_write_sheet.Goals as goal

@@ -1,6 +1,5 @@
 -- `packed::refuse` meets its contract: number and place are what the two calls answer.
 -- Assumes nothing.
-use borrow.Author.Rules.{rules}
 use Rattle.packed.proofs.refuse.Goals as goal
 
 pub returns : goal.returns

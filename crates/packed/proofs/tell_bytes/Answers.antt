@@ -1,6 +1,5 @@
 -- `packed::tell_bytes` meets its contract: in each arm the value that was matched is told as the definition has it.
 -- Assumes nothing.
-use borrow.Author.Rules.{rules}
 use mathlib.Core.Path.{sym, ap, ◌∙◌}
 use Rattle.table.specs.Calls.{wrote}
 use Rattle.packed.specs.Packed.{packed, told_count}

@@ -3,7 +3,6 @@
 use mathlib.Core.Path.{sym, ap, ◌∙◌}
 use Rattle.book.specs.Calls.{kind_told}
 use Rattle.packed.specs.Packed.{packed, told_kind}
-use borrow.Author.Rules.{rules}
 use Rattle.packed.proofs.tell_kind.Goals as goal
 
 pub returns-in-Kind : goal.returns-in-Kind
