@@ -11,11 +11,12 @@ use number::Refusal;
 use number::limits::POOL;
 use vector::{Vector, derive_vector, find, load, store_item};
 
-// What a step comes to: the pool's next free cell, how many items there are and the number reached; or the refusal.
+// What a step comes to: the pool's next free cell, how many items there are and the number reached.
 #[derive(Clone, Copy)]
-pub enum Stepped {
-    Reached(usize, usize, usize),
-    Stopped(Refusal),
+pub struct Reached {
+    pub top: usize,
+    pub count: usize,
+    pub number: usize,
 }
 
 // The step from item `i`, whose number is told as `place`, by a byte, where the sheet goes to state `sheet`;
@@ -32,7 +33,7 @@ pub fn step(
     sheet: usize,
     limit: usize,
     full: Refusal,
-) -> Stepped
+) -> Result<Reached, Refusal>
     requires ready { Ready cells.old n top count limit i byte }
     requires indexed { Indexed index.old cells.old top }
     ensures steps { Steps cells.old n count limit cells.new
@@ -42,33 +43,45 @@ pub fn step(
     let v = load(cells, i);
     let derived = derive_vector(index, cells, top, v, n, byte);
     if derived.long {
-        return Stepped::Stopped(Refusal::Long(place));
+        return Err(Refusal::Long(place));
     }
     let next = derived.top;
     let w = derived.vector;
     let at = find(cells, count, sheet, w);
     if at < count {
-        return Stepped::Reached(top, count, at);
+        return Ok(Reached {
+            top,
+            count,
+            number: at,
+        });
     }
     if limit <= count {
-        return Stepped::Stopped(full);
+        return Err(full);
     }
     if POOL < next {
-        return Stepped::Stopped(Refusal::Pool(place));
+        return Err(Refusal::Pool(place));
     }
     store_item(cells, count, w, sheet, i, byte);
-    Stepped::Reached(next, count + 1, count)
+    Ok(Reached {
+        top: next,
+        count: count + 1,
+        number: count,
+    })
 }
 
 // Vector 0, which stands in the pool already, becomes item 0, beside state 0 of the sheet.
-pub fn hold_first(cells: &mut [u64], top: usize, n: usize, v: Vector) -> Stepped
+pub fn hold_first(cells: &mut [u64], top: usize, n: usize, v: Vector) -> Result<Reached, Refusal>
     requires { First cells.old n top v.at }
     ensures begins { Begins cells.old n v.at cells.new result }
     ensures keeps { Keeps cells.old top cells.new result }
 {
     if POOL < top {
-        return Stepped::Stopped(Refusal::Pool(0));
+        return Err(Refusal::Pool(0));
     }
     store_item(cells, 0, v, 0, 0, 0);
-    Stepped::Reached(top, 1, 0)
+    Ok(Reached {
+        top,
+        count: 1,
+        number: 0,
+    })
 }
