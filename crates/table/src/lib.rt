@@ -1,5 +1,5 @@
 // Tables in lent memory: labels hold one cell a state and targets 256. Whether they are a table is tested here; sheets are read
-// and written in the crates loading and writing, which answer by the types of this one.
+// and written in the crates loading and writing.
 #![tactic(auto)]
 
 ghost use Rattle.std.specs.Prelude.{◌≡◌, ℕ, ◌-◌, ◌≤◌, ltb, length, take, replicate};
@@ -7,37 +7,18 @@ ghost use Rattle.number.specs.Lists.{written};
 ghost use Rattle.table.specs.Table.{all};
 ghost use Rattle.table.specs.Promises.{Tests};
 
-use number::Refusal;
 use number::limits::{BYTES, RULES, STATES};
 
 // The longest sheet: version and count in three bytes, and for each state a label, a run count in two bytes, and 256 runs of three,
 // since a target of 128 and up takes two.
 pub const LONGEST_SHEET: usize = 3 + STATES * (3 + 3 * BYTES);
 
-// The states of a table that a call filled an area with, or why it did not.
-#[derive(Clone, Copy)]
-pub enum Counted {
-    States(usize),
-    Refused(Refusal),
-}
-
-// The bytes of a sheet that was written, or why it was not.
-#[derive(Clone, Copy)]
-pub enum Written {
-    Bytes(usize),
-    Unwritten(Refusal),
-}
-
 // One value into the cells from `from` to `end`.
 pub fn fill(cells: &mut [u8], from: usize, end: usize, value: u8)
     requires { (from ≤ end) × (end ≤ length cells.old) }
     ensures { cells.new ≡ written cells.old from (replicate (end - from) value) }
 {
-    let mut i = from;
-    while i < end {
-        cells[i] = value;
-        i += 1;
-    }
+    cells[from..end].fill(value);
 }
 
 // Each of the first cells is below a limit. All are looked at and only the largest is tested, so that many are compared at a time.
