@@ -1,25 +1,23 @@
--- The readers of a book, return by return, as the code meets them: the code's proofs cite one law a return.
+-- The nodes of a rule, the rules of a book and a whole book, return by return, as the code meets them: the code's proofs cite one law a return.
 -- Also how many nodes and rules such a reading got, wherever it began; ReadLaws tells more of a book that was read whole.
 use Prim.Native.Nat.{ℕ, zero, suc, ◌+◌, ◌-◌, ◌<◌, ◌≤◌}
 use native.Mathlib.Omega.{arith}
-use Rattle.std.specs.Prelude.{◌≡◌, true, false, not, List, ◌∷◌, ltb, eqb}
+use Rattle.std.specs.Prelude.{◌≡◌, not, List, ◌∷◌, ltb, eqb}
 use Rattle.std.proofs.Math.Path.{refl, sym, ap}
 use Rattle.std.proofs.Common.{◌∙◌}
 use borrow.Author.Tests.{lt-ltb, le-ltb, eq-eqb, ne_eqb, ltb-false}
 use Rattle.std.proofs.Math.ListN.{length}
-use Rattle.number.specs.Limits.{first_version, last_version, rules, kinds, nodes, last_byte, first_letter, last_letter}
-use Rattle.number.specs.Limits.{code_nothing, code_empty, code_range, code_cat, code_alt, code_star, code_either, code_and, code_not}
+use Rattle.number.specs.Limits.{first_version, last_version, rules, kinds, nodes}
 use Rattle.number.specs.declared.Refusal.{Refusal}
 use Rattle.number.specs.declared.Refusal.TheVariants.{Range as OutOfRange, Stack, Tail}
 use Rattle.number.specs.Refused.{Answer}
 use Rattle.number.specs.Refused.Answer.{got, refused}
 use Rattle.number.specs.Refused.Outcome.{gives}
-use Rattle.number.specs.Numbers.{read_number, field}
+use Rattle.number.specs.Numbers.{field}
 use Rattle.number.specs.Reading.{onward, end, map_answer}
 use Rattle.book.specs.declared.Node.{Node}
-use Rattle.book.specs.declared.Node.TheVariants.{Nothing, Empty, Range, Cat, Alt, Star, Either, And, Not}
-use Rattle.book.specs.Book.{Rule, allowed, takes, total}
-use Rattle.book.specs.Reads.{read_range, read_either, read_after, read_node, more_nodes, more_rules, book, read_book}
+use Rattle.book.specs.Book.{Rule, takes, total}
+use Rattle.book.specs.Reads.{read_node, more_nodes, more_rules, book, read_book}
 use Rattle.book.specs.Calls.{size_of}
 use Rattle.book.specs.AnswerLaws.{same_thing, same_place, got_is, made_of, refused_of, went, passed}
 

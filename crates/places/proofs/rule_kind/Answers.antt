@@ -1,7 +1,7 @@
 -- `places::rule_kind` meets its contract: what checking told decides, and past it the rule is found.
 -- Assumes nothing.
 use native.Mathlib.Omega.{arith}
-use mathlib.Core.Path.{◌≡◌, sym}
+use mathlib.Core.Path.{sym}
 use Rattle.std.proofs.lemmas.Result.{err_from_is_err_and}
 use Rattle.number.specs.Numbers.{Bytes}
 use Rattle.book.specs.Promises.{tells_kind}
