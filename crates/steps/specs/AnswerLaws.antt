@@ -117,7 +117,7 @@ module _ (s : List ℕ) (n top count limit i place byte sheet : ℕ) (full : Ref
     pub index_held : (x : List ℕ) → Indexed x s' top' → at < count → Indexed x s' top
     index_held x i l = rw (held_top l) at i
 
-    pub answer_held : at < count → Steps s n count limit s' (step way i old byte) (Ok (record { top = top; count = count; number = at }))
+    pub answer_held : at < count → Steps s n count limit s' (step way i old byte) (Ok (record { held = record { top = top; count = count }; number = at }))
     answer_held l = record {
       same_length = spared.same_length;
       comes = record {
@@ -167,7 +167,7 @@ module _ (s : List ℕ) (n top count limit i place byte sheet : ℕ) (full : Ref
       pub index_new : (x : List ℕ) → Indexed x s' top' → Indexed x s'' top'
       index_new x y = indexed_same s'' y (stored_low s' n top' count w sheet i byte s'' grown room done.numbers stored)
 
-      pub answer_new : count ≤ at → Steps s n count limit s'' (step way i old byte) (Ok (record { top = top'; count = count + 1; number = count }))
+      pub answer_new : count ≤ at → Steps s n count limit s'' (step way i old byte) (Ok (record { held = record { top = top'; count = count + 1 }; number = count }))
       answer_new l = record {
         same_length = stored_length s' n top' count w sheet i byte s'' grown room done.numbers stored ∙ spared.same_length;
         comes = record {
@@ -207,7 +207,7 @@ module _ (s : List ℕ) (n top : ℕ) (v : List ℕ) (ok : First s n top v) wher
     pub begun_index : (x : List ℕ) → Indexed x s top → Indexed x s' top
     begun_index x y = indexed_same s' y (stored_low s n top 0 v 0 0 0 s' ok.kept (omega arith) ok.numbers stored)
 
-    pub begins_held : Begins s n v s' (Ok (record { top = top; count = 1; number = 0 }))
+    pub begins_held : Begins s n v s' (Ok (record { held = record { top = top; count = 1 }; number = 0 }))
     unfolding number_in
     begins_held = record {
       begins = λ way m o. record {

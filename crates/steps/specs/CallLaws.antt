@@ -17,7 +17,7 @@ use Rattle.steps.specs.WayLaws.{step_way}
 
 -- the answer told apart
 pub went : {s : List ℕ} {n before limit : ℕ} {s' : List ℕ} {w : Step} {r : Result Reached Refusal} {y : Reached} → Steps s n before limit s' w r
-    → r ≡ Ok y → Went s' n before limit y.top y.count y.number w
+    → r ≡ Ok y → Went s' n before limit y.held.top y.held.count y.number w
 went {s} {n} {before} {limit} {s'} {w} x e = subst (Comes s' n before limit w) e x.comes
 
 pub halts : {s : List ℕ} {n before limit : ℕ} {s' : List ℕ} {w : Step} {r : Result Reached Refusal} {q : Refusal} → Steps s n before limit s' w r
@@ -25,7 +25,7 @@ pub halts : {s : List ℕ} {n before limit : ℕ} {s' : List ℕ} {w : Step} {r 
 halts {s} {n} {before} {limit} {s'} {w} x e = subst (Comes s' n before limit w) e x.comes
 
 -- the index at the top that was reached
-pub followed : {x s : List ℕ} {r : Result Reached Refusal} {y : Reached} → Follows x s r → r ≡ Ok y → Indexed x s y.top
+pub followed : {x s : List ℕ} {r : Result Reached Refusal} {y : Reached} → Follows x s r → r ≡ Ok y → Indexed x s y.held.top
 followed {x} {s} f e = subst (Follows x s) e f
 
 -- the step is one of the caller's walk

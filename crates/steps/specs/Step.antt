@@ -10,6 +10,7 @@ use Rattle.walk.specs.Walk.Step.{stopped, reached}
 use Rattle.vector.specs.Layout.{items}
 use Rattle.vector.specs.Vectors.{vector_of}
 use Rattle.vector.specs.Memory.{held_of, Kept}
+use Rattle.steps.specs.declared.Extent.{Extent}
 use Rattle.steps.specs.declared.Reached.{Reached}
 
 -- the way of one step: the sheet state that it leads to, how many items may be held, the place to tell, and the refusal of one more; terms as many as the pool takes
@@ -36,7 +37,7 @@ pub record Went (s : List ℕ) (n before limit top count j : ℕ) (w : Step) : T
 
 -- the answer is walk's
 abbrev pub Comes : List ℕ → ℕ → ℕ → ℕ → Step → Result Reached Refusal → Type 0
-Comes s n before limit w (Ok x) = Went s n before limit x.top x.count x.number w
+Comes s n before limit w (Ok x) = Went s n before limit x.held.top x.held.count x.number w
 Comes s n before limit w (Err r) = w ≡ stopped r
 
 -- what a step leaves: memory of the same length, and walk's answer, from so many items before
@@ -46,8 +47,13 @@ pub record Steps (s : List ℕ) (n before limit : ℕ) (s' : List ℕ) (w : Step
 
 -- x is the index of the pool up to the top that was reached
 abbrev pub Follows : List ℕ → List ℕ → Result Reached Refusal → Type 0
-Follows x s (Ok y) = Indexed x s y.top
+Follows x s (Ok y) = Indexed x s y.held.top
 Follows x s (Err r) = Unit
+
+-- the same after a row or more, of which only what is held is told
+abbrev pub Indexes : List ℕ → List ℕ → Result Extent Refusal → Type 0
+Indexes x s (Ok held) = Indexed x s held.top
+Indexes x s (Err r) = Unit
 
 abbrev pub first_item : List Re → Item
 first_item v = record { sheet = 0; vector = v; text = [] }

@@ -11,11 +11,17 @@ use number::Refusal;
 use number::limits::POOL;
 use vector::{Vector, derive_vector, find, load, store_item};
 
-// What a step comes to: the pool's next free cell, how many items there are and the number reached.
+// What the work area holds: the pool's next free cell, and how many items there are.
 #[derive(Clone, Copy)]
-pub struct Reached {
+pub struct Extent {
     pub top: usize,
     pub count: usize,
+}
+
+// What a step comes to: what is held then, and the number reached.
+#[derive(Clone, Copy)]
+pub struct Reached {
+    pub held: Extent,
     pub number: usize,
 }
 
@@ -24,8 +30,7 @@ pub struct Reached {
 pub fn step(
     index: &mut [u16],
     cells: &mut [u64],
-    top: usize,
-    count: usize,
+    held: Extent,
     n: usize,
     i: usize,
     place: usize,
@@ -34,38 +39,36 @@ pub fn step(
     limit: usize,
     full: Refusal,
 ) -> Result<Reached, Refusal>
-    requires ready { Ready cells.old n top count limit i byte }
-    requires indexed { Indexed index.old cells.old top }
-    ensures steps { Steps cells.old n count limit cells.new
-        (step (way_of sheet limit place full) i (held_of cells.old n top count) byte) result }
+    requires ready { Ready cells.old n held.top held.count limit i byte }
+    requires indexed { Indexed index.old cells.old held.top }
+    ensures steps { Steps cells.old n held.count limit cells.new
+        (step (way_of sheet limit place full) i (held_of cells.old n held.top held.count) byte) result }
     ensures follows { Follows index.new cells.new result }
 {
     let v = load(cells, i);
-    let derived = derive_vector(index, cells, top, v, n, byte);
+    let derived = derive_vector(index, cells, held.top, v, n, byte);
     if derived.long {
         return Err(Refusal::Long(place));
     }
     let next = derived.top;
     let w = derived.vector;
-    let at = find(cells, count, sheet, w);
-    if at < count {
-        return Ok(Reached {
-            top,
-            count,
-            number: at,
-        });
+    let at = find(cells, held.count, sheet, w);
+    if at < held.count {
+        return Ok(Reached { held, number: at });
     }
-    if limit <= count {
+    if limit <= held.count {
         return Err(full);
     }
     if POOL < next {
         return Err(Refusal::Pool(place));
     }
-    store_item(cells, count, w, sheet, i, byte);
+    store_item(cells, held.count, w, sheet, i, byte);
     Ok(Reached {
-        top: next,
-        count: count + 1,
-        number: count,
+        held: Extent {
+            top: next,
+            count: held.count + 1,
+        },
+        number: held.count,
     })
 }
 
@@ -80,8 +83,7 @@ pub fn hold_first(cells: &mut [u64], top: usize, n: usize, v: Vector) -> Result<
     }
     store_item(cells, 0, v, 0, 0, 0);
     Ok(Reached {
-        top,
-        count: 1,
+        held: Extent { top, count: 1 },
         number: 0,
     })
 }
