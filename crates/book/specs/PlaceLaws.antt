@@ -2,7 +2,7 @@
 -- From there the nodes are read one by one; ReadLawsPlaces says how each stands.
 use Prim.Native.Nat.{ℕ, zero, suc, ◌+◌, ◌<◌, ◌≤◌}
 use Rattle.std.proofs.Common.{arith, sym, ◌∙◌, lt-ltb, le-ltb}
-use Rattle.std.specs.Prelude.{◌≡◌, refl, List}
+use Rattle.std.specs.Prelude.{◌≡◌, refl, List, Some, None}
 use Rattle.std.proofs.Math.Path.{ap}
 use Rattle.std.proofs.Math.ListN.{length}
 use Rattle.number.specs.Limits.{first_version, last_version, rules, kinds, nodes}
@@ -22,7 +22,7 @@ use Rattle.book.specs.Places.{rule_of, rule_at, nodes_at}
 use Rattle.book.specs.ReadLawsSteps.{clash}
 use Rattle.book.specs.ReadLawsWritten.{nodes_written}
 use Rattle.book.specs.ReadLawsPlaces.{RuleIn, rule_in_lem, rules_start}
-use Rattle.book.specs.Answers.{read_head, find_rule, find_from, nowhere, place_at, place_of}
+use Rattle.book.specs.Answers.{read_head, find_rule, find_from, place_at, place_of}
 use Rattle.book.specs.AnswerLaws.{made_of, refused_of, went, same_thing}
 use Rattle.book.specs.CodeLaws.{counted, HeadRead, BookHead}
 
@@ -181,22 +181,22 @@ module _ (file : List ℕ) where
       rw (c.read, lt-ltb _ _ within, same)
 
   -- a rule's place
-  pub place_refused : (rule : ℕ) (r : Refusal) → size_of (read_book file) ≡ refuses r → place_of file rule ≡ nowhere
+  pub place_refused : (rule : ℕ) (r : Refusal) → size_of (read_book file) ≡ refuses r → place_of file rule ≡ None
   place_refused rule r e = rw (checked_refused r e)
 
   pub place_none : (rule n sum : ℕ) → size_of (read_book file) ≡ gives (record { rules = n; nodes = sum }) → n ≤ rule
-      → place_of file rule ≡ nowhere
+      → place_of file rule ≡ None
   place_none rule n sum e h =
       let c = checked_counts n sum e in
       let past : length c.b.rules ≤ rule = omega (arith, c.many) in
       rw (c.read, le-ltb _ _ past)
 
   pub place_lost : (rule n sum : ℕ) (r : Refusal) → Bytes file → size_of (read_book file) ≡ gives (record { rules = n; nodes = sum })
-      → rule < n → find_from file rule 0 ≡ refused r → place_of file rule ≡ nowhere
+      → rule < n → find_from file rule 0 ≡ refused r → place_of file rule ≡ None
   place_lost rule n sum r all e h f = absurd (not_lost rule n sum r all e h f)
 
   pub place_found : (rule n sum : ℕ) (p : RulePlace) → Bytes file → size_of (read_book file) ≡ gives (record { rules = n; nodes = sum })
-      → rule < n → find_from file rule 0 ≡ got p p.at → place_of file rule ≡ p
+      → rule < n → find_from file rule 0 ≡ got p p.at → place_of file rule ≡ Some p
   place_found rule n sum p all e h f =
       let (c, found, within) = found_counted rule n sum all e h in
       let same : p ≡ place_at c.b rule = same_thing (sym f ∙ found) in
@@ -205,5 +205,5 @@ module _ (file : List ℕ) where
   -- ---- for the layers above
 
   -- the place of a rule of a book that was read
-  pub place_known : (b : Book) (after i : ℕ) → read_book file ≡ got b after → i < length b.rules → place_of file i ≡ place_at b i
+  pub place_known : (b : Book) (after i : ℕ) → read_book file ≡ got b after → i < length b.rules → place_of file i ≡ Some (place_at b i)
   place_known b after i e h = rw (e, lt-ltb _ _ h)

@@ -1,7 +1,7 @@
 -- Laws of the bytes of laid nodes: how many there are at most, one cell more, and that they are the nodes' own bytes.
 -- Either, And and Not cannot be typed, and are not laid.
 use Rattle.std.specs.Prelude.{ℕ, suc, ◌+◌, ◌*◌, ◌/◌, ◌%◌, ◌<◌, ◌≤◌, ◌≡◌, refl, Bool, true, false, cond, List, [], ◌∷◌, ◌++◌, map, eqb, ltb, length, get_or, take}
-use Rattle.std.proofs.Common.{arith, sym, ap, ◌∙◌, append_assoc, append-nil, length-append, take-suc, eq-eqb, ne_eqb, lt-ltb}
+use Rattle.std.proofs.Common.{arith, sym, ap, ◌∙◌, append_assoc, append-nil, length-append, take-suc, take_all, eq-eqb, ne_eqb, lt-ltb}
 use Rattle.number.specs.Limits.{group, two_groups, last_byte}
 use Rattle.number.specs.Branch.{by_cond}
 use Rattle.number.specs.Lists.{Writes, writes_none, writes_then, written_length}
@@ -66,34 +66,31 @@ cells_more [] x = append-nil (cell_bytes x)
 cells_more (y ∷ xs) x = ap (cell_bytes y ++◌) (cells_more xs x) ∙ sym (append_assoc (cell_bytes y) (cells_bytes xs) (cell_bytes x))
 
 -- the cells up to i, each within seven bytes
-pub record CellsSoFar (cells s : List ℕ) (at count : ℕ) (t : List ℕ) (p i : ℕ) : Type 0 where
+pub record CellsSoFar (cells s : List ℕ) (at : ℕ) (t : List ℕ) (p i : ℕ) : Type 0 where
   pub writes : Writes (cells_bytes (take i cells)) s t at p
-  pub within : i ≤ count
   pub small : p ≤ at + i * 7
   pub same : length t ≡ length s
 
-pub cells_first : (cells s : List ℕ) (at count : ℕ) → CellsSoFar cells s at count s at 0
+pub cells_first : (cells s : List ℕ) (at : ℕ) → CellsSoFar cells s at s at 0
 unfolding cells_bytes
-cells_first cells s at count = record { writes = writes_none s at; within = omega arith; small = omega arith; same = refl }
+cells_first cells s at = record { writes = writes_none s at; small = omega arith; same = refl }
 
-pub cells_on : (cells s : List ℕ) (at count : ℕ) (t u : List ℕ) (p q i : ℕ) → i < count → count ≤ length cells → at + count * 7 ≤ length s
-    → CellsSoFar cells s at count t p i → Writes (cell_bytes (get_or cells i 0)) t u p q → CellsSoFar cells s at count u q (i + 1)
-cells_on cells s at count t u p q i l m h a b =
+pub cells_on : (cells s : List ℕ) (at : ℕ) (t u : List ℕ) (p q i : ℕ) → i < length cells → at + length cells * 7 ≤ length s
+    → CellsSoFar cells s at t p i → Writes (cell_bytes (get_or cells i 0)) t u p q → CellsSoFar cells s at u q (i + 1)
+cells_on cells s at t u p q i l h a b =
     let one : suc i ≡ i + 1 = omega arith in
     let x : ℕ = get_or cells i 0 in
     let bytes : cells_bytes (take i cells) ++ cell_bytes x ≡ cells_bytes (take (i + 1) cells) =
     sym (cells_more (take i cells) x) ∙ ap cells_bytes (sym (take-suc cells i 0 (omega arith)) ∙ ap (λ (j : ℕ). take j cells) one) in
     record {
       writes = rw (← bytes) (writes_then (omega arith) a.writes b);
-      within = omega arith;
       small = omega (arith, a.small, b.place, cell_most x);
       same = writes_same b (omega (arith, a.small, a.same, cell_most x)) ∙ a.same;
     }
 
-pub cells_all : (cells s : List ℕ) (at count : ℕ) (t : List ℕ) (p i : ℕ) → count ≤ i → CellsSoFar cells s at count t p i
-    → Writes (cells_bytes (take count cells)) s t at p
-cells_all cells s at count t p i h a =
-    let e : i ≡ count = omega (arith, a.within) in rw (← e) a.writes
+pub cells_all : {cells s : List ℕ} {at : ℕ} {t : List ℕ} {p i : ℕ} → length cells ≤ i → CellsSoFar cells s at t p i
+    → Writes (cells_bytes cells) s t at p
+cells_all {cells} {i = i} h a = rw (← take_all i cells h) a.writes
 
 -- ---- the nodes' own bytes
 

@@ -2,14 +2,14 @@
 // Past that a count stays at 513 and what is laid is lost: such a text is out of range, and only that is still asked.
 #![tactic(auto)]
 
-ghost use Rattle.std.specs.Prelude.{◌≡◌, ◌<◌, length, get_or};
+ghost use Rattle.std.specs.Prelude.{◌≡◌, ◌<◌, length};
 ghost use Rattle.number.specs.Limits.{nodes};
 ghost use Rattle.book.specs.declared.Node.TheVariants.{Range};
 ghost use Rattle.typed.specs.Exp.{postfix};
 ghost use Rattle.typed.specs.Exp.Exp.{set as set_exp};
 ghost use Rattle.typed.specs.Sets.{sets};
 ghost use Rattle.laid.specs.Laid.{pack, mark_of, AddsCell, Adds, Again, Marked};
-ghost use Rattle.laid.specs.Tables.{table, starts, set_at, range_nodes};
+ghost use Rattle.laid.specs.Tables.{set_at, range_nodes};
 
 pub mod writing;
 
@@ -19,6 +19,7 @@ use number::limits::{CODE_ALT, CODE_CAT, CODE_EMPTY, CODE_RANGE, CODE_STAR, NODE
 const OVER: usize = NODES + 1;
 
 // Nodes in cells: a code, and for a range its bounds above it.
+// Kept as packed numbers, since `lay` promises what it does with every u32 and `range_cell` promises `pack`: a type of cells would ask more of callers.
 pub const EMPTY: u32 = CODE_EMPTY as u32;
 
 pub(crate) const RANGE: u32 = CODE_RANGE as u32;
@@ -84,11 +85,9 @@ fn again(cells: &mut [u32], start: usize, top: usize) -> usize
 {
     let mut t = top;
     if top <= NODES {
-        let mut i = start;
-        while i < top {
+        for i in start..top {
             let x = cells[i];
             t = lay(cells, t, x);
-            i = i + 1;
         }
     }
     t
@@ -99,16 +98,18 @@ pub fn mark(cells: &mut [u32], start: usize, top: usize, c: u8) -> usize
     requires { length cells.old ≡ nodes }
     ensures { Marked (mark_of c) cells.old start top cells.new result }
 {
-    if c == b'*' {
-        return lay(cells, top, STAR);
+    match c {
+        b'*' => lay(cells, top, STAR),
+        b'+' => {
+            let twice = again(cells, start, top);
+            let starred = lay(cells, twice, STAR);
+            lay(cells, starred, CAT)
+        }
+        _ => {
+            let empty = lay(cells, top, EMPTY);
+            lay(cells, empty, ALT)
+        }
     }
-    if c == b'+' {
-        let twice = again(cells, start, top);
-        let starred = lay(cells, twice, STAR);
-        return lay(cells, starred, CAT);
-    }
-    let empty = lay(cells, top, EMPTY);
-    lay(cells, empty, ALT)
 }
 
 // The cell of a range.
@@ -116,20 +117,6 @@ pub fn range_cell(lo: u8, hi: u8) -> u32
     ensures { result ≡ pack (Range lo hi) }
 {
     ((lo as u32) * 256 + hi as u32) * 8 + RANGE
-}
-
-fn range_at(i: usize) -> Span
-    requires { i < 23 }
-    ensures { result ≡ get_or table i (record { lo = 0; hi = 0 }) }
-{
-    RANGES[i]
-}
-
-fn start_of(k: usize) -> usize
-    requires { k < 13 }
-    ensures { result ≡ get_or starts k 0 }
-{
-    STARTS[k]
 }
 
 // One range of a set, joined to those before it.
@@ -150,14 +137,11 @@ pub fn lay_set(cells: &mut [u32], top: usize, k: usize) -> usize
     requires { (k < length sets) × (length cells.old ≡ nodes) }
     ensures { Adds cells.old top (postfix (set_exp (set_at k))) cells.new result }
 {
-    let from = start_of(k);
-    let end = start_of(k + 1);
+    let from = STARTS[k];
+    let end = STARTS[k + 1];
     let mut t = top;
-    let mut i = from;
-    while i < end {
-        let r = range_at(i);
-        t = lay_range(cells, t, r, from < i);
-        i = i + 1;
+    for i in from..end {
+        t = lay_range(cells, t, RANGES[i], from < i);
     }
     t
 }

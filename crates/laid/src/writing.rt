@@ -1,6 +1,6 @@
 // Laid nodes written to bytes, as a rule book has them.
 // Each writer answers the place after what it wrote; a cell takes at most seven bytes, whatever it holds.
-ghost use Rattle.std.specs.Prelude.{◌+◌, ◌*◌, ◌≤◌, length, take};
+ghost use Rattle.std.specs.Prelude.{◌+◌, ◌*◌, ◌≤◌, length};
 ghost use Rattle.number.specs.Lists.{Writes};
 ghost use Rattle.laid.specs.Bytes.{cell_bytes, cells_bytes};
 
@@ -21,16 +21,14 @@ fn write_cell(x: u32, out: &mut [u8], at: usize) -> usize
     write_number(bounds % 256, out, second)
 }
 
-// So many nodes, from the first on.
-pub fn write_cells(cells: &[u32], count: usize, out: &mut [u8], at: usize) -> usize
-    requires { (count ≤ length cells.now) × (at + count * 7 ≤ length out.old) }
-    ensures { Writes (cells_bytes (take count cells.now)) out.old out.new at result }
+// The nodes, one after the other.
+pub fn write_cells(cells: &[u32], out: &mut [u8], at: usize) -> usize
+    requires { at + length cells.now * 7 ≤ length out.old }
+    ensures { Writes (cells_bytes cells.now) out.old out.new at result }
 {
     let mut p = at;
-    let mut i = 0;
-    while i < count {
-        p = write_cell(cells[i], out, p);
-        i = i + 1;
+    for x in cells {
+        p = write_cell(*x, out, p);
     }
     p
 }

@@ -1,6 +1,6 @@
 -- One law for each answer of the code: where its tests led there, the answer is walk's.
 -- Deriving a vector that is held adds nothing to the pool, so that its top stays; a new item moves the top.
-use Rattle.std.specs.Prelude.{ℕ, ◌+◌, ◌<◌, ◌≤◌, ◌≡◌, List, [], ◌∷◌, ◌++◌, length, get_or}
+use Rattle.std.specs.Prelude.{ℕ, ◌+◌, ◌<◌, ◌≤◌, ◌≡◌, List, [], ◌∷◌, ◌++◌, length, get_or, Ok, Err}
 use Rattle.std.proofs.Math.Path.{refl, ap}
 use Rattle.std.proofs.Common.{sym, ◌∙◌, arith}
 use Rattle.number.specs.declared.Refusal.{Refusal}
@@ -42,7 +42,6 @@ use Rattle.vector.specs.MemoryLaws.{
   stored_first,
   stored_next,
 }
-use Rattle.steps.specs.declared.Stepped.TheVariants.{Reached, Stopped}
 use Rattle.steps.specs.Step.{way_of, Ready, Steps, first_item, Begins}
 use Rattle.steps.specs.ComeLaws.{come_held, come_full, come_pool, come_new}
 
@@ -74,7 +73,7 @@ module _ (s : List ℕ) (n top count limit i place byte sheet : ℕ) (full : Ref
   step_by d e = ap (come_by way i old byte) (ap (derived byte) (sym from) ∙ e)
 
   -- a term on the way was too long
-  pub answer_long : derived byte (vector_of s n v) ≡ TooLong → Steps s n count limit s' (step way i old byte) (Stopped (Long place))
+  pub answer_long : derived byte (vector_of s n v) ≡ TooLong → Steps s n count limit s' (step way i old byte) (Err (Long place))
   answer_long e = record { same_length = spared.same_length; comes = step_by TooLong e }
 
   -- ---- the derived vector, looked for among the items
@@ -118,7 +117,7 @@ module _ (s : List ℕ) (n top count limit i place byte sheet : ℕ) (full : Ref
     pub index_held : (x : List ℕ) → Indexed x s' top' → at < count → Indexed x s' top
     index_held x i l = rw (held_top l) at i
 
-    pub answer_held : at < count → Steps s n count limit s' (step way i old byte) (Reached top count at)
+    pub answer_held : at < count → Steps s n count limit s' (step way i old byte) (Ok (record { held = record { top = top; count = count }; number = at }))
     answer_held l = record {
       same_length = spared.same_length;
       comes = record {
@@ -134,13 +133,13 @@ module _ (s : List ℕ) (n top count limit i place byte sheet : ℕ) (full : Ref
       };
     }
 
-    pub answer_full : count ≤ at → limit ≤ count → Steps s n count limit s' (step way i old byte) (Stopped full)
+    pub answer_full : count ≤ at → limit ≤ count → Steps s n count limit s' (step way i old byte) (Err full)
     answer_full l m = record {
       same_length = spared.same_length;
       comes = comes ∙ come_full way place old next at number (omega (arith, many)) (omega (arith, many));
     }
 
-    pub answer_pool : count ≤ at → count < limit → pool < top' → Steps s n count limit s' (step way i old byte) (Stopped (Pool place))
+    pub answer_pool : count ≤ at → count < limit → pool < top' → Steps s n count limit s' (step way i old byte) (Err (Pool place))
     answer_pool l m o = record {
       same_length = spared.same_length;
       comes = comes ∙ come_pool way place old next at number (omega (arith, many)) (omega (arith, many)) (omega (arith, size));
@@ -168,7 +167,7 @@ module _ (s : List ℕ) (n top count limit i place byte sheet : ℕ) (full : Ref
       pub index_new : (x : List ℕ) → Indexed x s' top' → Indexed x s'' top'
       index_new x y = indexed_same s'' y (stored_low s' n top' count w sheet i byte s'' grown room done.numbers stored)
 
-      pub answer_new : count ≤ at → Steps s n count limit s'' (step way i old byte) (Reached top' (count + 1) count)
+      pub answer_new : count ≤ at → Steps s n count limit s'' (step way i old byte) (Ok (record { held = record { top = top'; count = count + 1 }; number = count }))
       answer_new l = record {
         same_length = stored_length s' n top' count w sheet i byte s'' grown room done.numbers stored ∙ spared.same_length;
         comes = record {
@@ -189,7 +188,7 @@ module _ (s : List ℕ) (n top : ℕ) (v : List ℕ) (ok : First s n top v) wher
   begun : length (with_vector [] (vector_of s n v)) ≡ top
   begun = ap length (sym ok.holds) ∙ terms_length s top
 
-  pub begins_over : pool < top → Begins s n v s (Stopped (Pool 0))
+  pub begins_over : pool < top → Begins s n v s (Err (Pool 0))
   unfolding number_in
   begins_over l = record {
     begins = λ way m o. record {
@@ -208,7 +207,7 @@ module _ (s : List ℕ) (n top : ℕ) (v : List ℕ) (ok : First s n top v) wher
     pub begun_index : (x : List ℕ) → Indexed x s top → Indexed x s' top
     begun_index x y = indexed_same s' y (stored_low s n top 0 v 0 0 0 s' ok.kept (omega arith) ok.numbers stored)
 
-    pub begins_held : Begins s n v s' (Reached top 1 0)
+    pub begins_held : Begins s n v s' (Ok (record { held = record { top = top; count = 1 }; number = 0 }))
     unfolding number_in
     begins_held = record {
       begins = λ way m o. record {

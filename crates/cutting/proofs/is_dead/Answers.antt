@@ -1,5 +1,5 @@
--- `cutting::is_dead` meets its contract. The loop's invariant: the flag tells whether no byte below c leads out.
--- The measure is how many bytes are left. Assumes nothing.
+-- `cutting::is_dead` meets its contract: a label, or a byte that leads out, is told, and after all bytes the flag is.
+-- Assumes nothing.
 use Prim.Native.Nat.{◌+◌, ◌*◌}
 use native.Mathlib.Omega.{arith}
 use mathlib.Core.Path.{◌≡◌, sym, ap, ◌∙◌}
@@ -22,18 +22,16 @@ returns-then-first-state c =
     dead_not _ _ _ (λ d. c.if-first-state.true (rw start at (d.stays 0 (omega arith))))
 
 pub loop-c-init : goal.loop-c-init
-loop-c-init c = (omega arith, sym (keeps_none _ _))
+loop-c-init c = sym (keeps_none _ _)
 
 pub loop-c-preserved : goal.loop-c-preserved
-loop-c-preserved c = (
-  omega arith,
-  elim c.if-targets-row.branch [
-    | then-targets-row w ↦ w.stays-is ∙ keeps_not _ _ c.loop-c.c (λ e. w.if-targets-row.true (e ∙ sym c.if-first-state.false))
-    | else-targets-row w ↦ w.stays-is ∙ c.loop-c.invariant.1 ∙ keeps_more _ _ c.loop-c.c (w.if-targets-row.false ∙ c.if-first-state.false)
-  ],
-)
+loop-c-preserved c =
+    elim c.if-targets-row.branch [
+      | then-targets-row w ↦ w.stays-is ∙ keeps_not _ _ c.loop-c.c (λ e. w.if-targets-row.true (e ∙ sym c.if-first-state.false))
+      | else-targets-row w ↦ w.stays-is ∙ c.loop-c.invariant ∙ keeps_more _ _ c.loop-c.c (w.if-targets-row.false ∙ c.if-first-state.false)
+    ]
 
 pub returns : goal.returns
 returns c =
-    let all : c.loop-c.c ≡ bytes = omega (arith, c.loop-c.invariant.0) in
-    c.loop-c.invariant.1 ∙ ap (keeps c.args.targets.now c.args.state) all ∙ dead_told _ _ _ c.if-labels-state-ne0.false
+    let all : c.loop-c.c ≡ bytes = omega arith in
+    c.loop-c.invariant ∙ ap (keeps c.args.targets.now c.args.state) all ∙ dead_told _ _ _ c.if-labels-state-ne0.false

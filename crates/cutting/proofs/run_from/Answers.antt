@@ -1,13 +1,14 @@
--- `cutting::run_from` meets its contract. The loop's invariant: the bytes from the start up to i stay in the state.
--- The measure is how many bytes are left. Assumes nothing.
+-- `cutting::run_from` meets its contract: the first byte that leads elsewhere ends the run, or the text does.
+-- Assumes nothing.
 use native.Mathlib.Omega.{arith}
 use native.Mathlib.Decide.{dec_lt}
 use mathlib.Core.Path.{◌≡◌, refl}
+use lib.ListN.{length}
 use Rattle.cutting.proofs.Byte.{wide}
 use Rattle.cutting.proofs.run_from.Goals as goal
 
 pub loop-i-init : goal.loop-i-init
-loop-i-init c = (omega arith, c.requires.1, λ j h k. absurd (omega arith))
+loop-i-init c = λ j h k. absurd (omega arith)
 
 pub overflow_cast-then : goal.overflow_cast-then
 overflow_cast-then c = wide (c.type_inv.text _)
@@ -26,29 +27,27 @@ overflow_cast-then-in-loop-i c = wide (c.type_inv.targets _)
 pub returns-then-then-state : goal.returns-then-then-state
 returns-then-then-state c =
     record {
-      onward = c.loop-i.invariant.0;
-      within = c.loop-i.invariant.1;
-      stays = c.loop-i.invariant.2;
+      onward = omega arith;
+      within = omega arith;
+      stays = c.loop-i.invariant;
       leaves = λ _. (refl, c.if-then-state.true);
       over = λ e. absurd (omega arith);
     }
 
 pub loop-i-preserved : goal.loop-i-preserved
-loop-i-preserved c = (
-  omega (arith, c.loop-i.invariant.0),
-  omega arith,
-  λ j h k. elim (dec_lt j c.loop-i.i) [
-    | yes less ↦ c.loop-i.invariant.2 j h less
-    | no more ↦ let last : j ≡ c.loop-i.i = omega arith in rw last c.if-then-state.false
-  ],
-)
+loop-i-preserved c =
+    λ j h k. elim (dec_lt j c.loop-i.i) [
+      | yes less ↦ c.loop-i.invariant j h less
+      | no more ↦ let last : j ≡ c.loop-i.i = omega arith in rw last c.if-then-state.false
+    ]
 
 pub returns : goal.returns
 returns c =
+    let all : c.loop-i.i ≡ length c.args.text.now = omega arith in
     record {
-      onward = c.loop-i.invariant.0;
-      within = c.loop-i.invariant.1;
-      stays = c.loop-i.invariant.2;
+      onward = omega arith;
+      within = omega arith;
+      stays = rw all at c.loop-i.invariant;
       leaves = λ h. absurd (omega arith);
       over = λ _. refl;
     }
