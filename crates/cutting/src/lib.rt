@@ -37,7 +37,8 @@ pub enum Ended {
     Full(usize, usize),
 }
 
-// Where the bytes that stay in a state end, and the state that the byte there leads to: the dead one where the text ends.
+// Where the bytes that stay in a state end, and the state that the byte there leads to. It is the dead one where the text ends, since no label
+// follows either way, and one comparison tells both.
 #[derive(Clone, Copy)]
 struct Run {
     pub end: usize,
@@ -68,6 +69,7 @@ fn is_dead<'a>(labels: &'a [u8], targets: &'a [u8], state: usize) -> bool
 }
 
 // The first dead state, or the count of states where there is none.
+// Kept as a number, since the walk compares each state with it: an Option would be turned back into this number before the first word.
 pub fn dead_state<'a>(count: usize, labels: &'a [u8], targets: &'a [u8]) -> usize
     requires { Walkable count labels.now targets.now }
     ensures { result ≡ dead_of count labels.now targets.now }
@@ -80,7 +82,7 @@ pub fn dead_state<'a>(count: usize, labels: &'a [u8], targets: &'a [u8]) -> usiz
     count
 }
 
-// The word that ends before `best`, if a label was met.
+// The word that ends before `best`, if a label was met. Label 0 is the table's own word for no rule.
 fn best_word(at: usize, best: usize, label: usize) -> Option<(usize, usize)>
     requires { at ≤ best }
     ensures { next result ≡ better (best - at) label Stuck }
