@@ -1,54 +1,22 @@
 -- Laws of answers, whatever is read: the code's answers told as the paper's, and what an answer says of the reading that led to it.
 -- The laws of the readers, and the proofs of the code, cite these.
-use Rattle.std.specs.Prelude.{ℕ, ◌≡◌, refl, Bool, true, false}
+use Rattle.std.specs.Prelude.{ℕ, ◌≡◌, refl, Bool, true, false, Result, Ok, Err}
 use Rattle.std.proofs.Common.{sym, ap, ◌∙◌}
 use Rattle.number.specs.declared.Refusal.{Refusal}
-use Rattle.number.specs.declared.Taken.{Taken}
-use Rattle.number.specs.declared.Taken.TheVariants.{Value, Refused as NotTaken}
 use Rattle.number.specs.Refused.{Answer, Outcome}
 use Rattle.number.specs.Refused.Answer.{got, refused}
 use Rattle.number.specs.Refused.Outcome.{gives, refuses}
-use Rattle.number.specs.Numbers.{taken}
 use Rattle.number.specs.Reading.{Reader, onward, refuse_if, map_answer}
-use Rattle.book.specs.declared.Node.{Node}
-use Rattle.book.specs.declared.NodeRead.{NodeRead}
-use Rattle.book.specs.declared.NodeRead.TheVariants.{At, Refused as NoNode}
-use Rattle.book.specs.declared.RulePlace.{RulePlace}
-use Rattle.book.specs.declared.PlaceRead.{PlaceRead}
-use Rattle.book.specs.declared.PlaceRead.TheVariants.{Place, Refused as NoPlace}
-use Rattle.book.specs.declared.Checked.{Checked}
-use Rattle.book.specs.declared.Checked.TheVariants.{Counts, Refused as NotChecked}
 use Rattle.book.specs.Calls.{Size, checked}
 use Rattle.book.specs.ReadLawsSteps.{clash}
-use Rattle.book.specs.Answers.{node_read, place_read, refusal_of, node_refusal}
 
 -- ---- answers of the code, told as the paper's
 
-pub value_told : {x : Answer ℕ} {t : Taken} {n next : ℕ} → taken t ≡ x → t ≡ Value n next → x ≡ got n next
-value_told h e = sym h ∙ ap taken e
-
--- and where the refusal was taken out of the answer
-pub refusal_given : {x : Answer ℕ} {t : Taken} {q r : Refusal} → taken t ≡ x → t ≡ NotTaken q → r ≡ refusal_of t → x ≡ refused r
-refusal_given h e f = sym h ∙ ap taken e ∙ ap refused (sym (f ∙ ap refusal_of e))
-
-pub node_told : {x : Answer Node} {t : NodeRead} {n : Node} {next : ℕ} → node_read t ≡ x → t ≡ At n next → x ≡ got n next
-node_told h e = sym h ∙ ap node_read e
-
-pub node_refusal_given : {x : Answer Node} {t : NodeRead} {q r : Refusal} → node_read t ≡ x → t ≡ NoNode q → r ≡ node_refusal t
-    → x ≡ refused r
-node_refusal_given h e f = sym h ∙ ap node_read e ∙ ap refused (sym (f ∙ ap node_refusal e))
-
-pub place_told : {x : Answer RulePlace} {t : PlaceRead} {p : RulePlace} → place_read t ≡ x → t ≡ Place p → x ≡ got p p.at
-place_told h e = sym h ∙ ap place_read e
-
-pub place_refusal_told : {x : Answer RulePlace} {t : PlaceRead} {q : Refusal} → place_read t ≡ x → t ≡ NoPlace q → x ≡ refused q
-place_refusal_told h e = sym h ∙ ap place_read e
-
-pub counts_told : {x : Outcome Size} {t : Checked} {n sum : ℕ} → checked t ≡ x → t ≡ Counts n sum
+pub counts_told : {x : Outcome Size} {t : Result (ℕ × ℕ) Refusal} {n sum : ℕ} → checked t ≡ x → t ≡ Ok (n, sum)
     → x ≡ gives (record { rules = n; nodes = sum })
 counts_told h e = sym h ∙ ap checked e
 
-pub check_refusal_told : {x : Outcome Size} {t : Checked} {q : Refusal} → checked t ≡ x → t ≡ NotChecked q → x ≡ refuses q
+pub check_refusal_told : {x : Outcome Size} {t : Result (ℕ × ℕ) Refusal} {q : Refusal} → checked t ≡ x → t ≡ Err q → x ≡ refuses q
 check_refusal_told h e = sym h ∙ ap checked e
 
 -- equal answers got the same thing and reached the same place

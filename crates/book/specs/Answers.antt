@@ -1,42 +1,26 @@
 -- The inner readers' answers as the paper has them, and where a rule's nodes begin, for the layers that read them one by one.
 -- The promises of the code's inner functions cite these; PlaceLaws joins the way to a rule to its place.
-use Rattle.std.specs.Prelude.{ℕ, zero, suc, cond, List, ltb, length}
+use Rattle.std.specs.Prelude.{ℕ, zero, suc, cond, List, ltb, length, Option, Some, None, Result, Ok, Err}
 use Rattle.number.specs.Limits.{first_version, last_version, rules, kinds, nodes}
 use Rattle.number.specs.declared.Refusal.{Refusal}
-use Rattle.number.specs.declared.Refusal.TheVariants.{Input}
-use Rattle.number.specs.declared.Taken.{Taken}
-use Rattle.number.specs.declared.Taken.TheVariants.{Value, Refused as NotTaken}
 use Rattle.number.specs.Refused.{Answer}
 use Rattle.number.specs.Refused.Answer.{got, refused}
 use Rattle.number.specs.Numbers.{field}
 use Rattle.number.specs.Reading.{Reader, ◌>>=◌, answer, here}
 use Rattle.book.specs.declared.Node.{Node}
-use Rattle.book.specs.declared.NodeRead.{NodeRead}
-use Rattle.book.specs.declared.NodeRead.TheVariants.{At, Refused as NoNode}
 use Rattle.book.specs.declared.RulePlace.{RulePlace}
-use Rattle.book.specs.declared.PlaceRead.{PlaceRead}
-use Rattle.book.specs.declared.PlaceRead.TheVariants.{Place, Refused as NoPlace}
 use Rattle.book.specs.Book.{Book}
 use Rattle.book.specs.Reads.{read_nodes, read_book}
 use Rattle.book.specs.Places.{rule_of, nodes_at}
 
-abbrev pub node_read : NodeRead → Answer Node
-node_read (At n next) = got n next
-node_read (NoNode r) = refused r
+abbrev pub node_read : Result (Node × ℕ) Refusal → Answer Node
+node_read (Ok (n, next)) = got n next
+node_read (Err r) = refused r
 
 -- a place is the one that was reached
-abbrev pub place_read : PlaceRead → Answer RulePlace
-place_read (Place p) = got p p.at
-place_read (NoPlace r) = refused r
-
--- why something was not read; of what was read nobody asks it
-abbrev pub refusal_of : Taken → Refusal
-refusal_of (Value value next) = Input
-refusal_of (NotTaken r) = r
-
-abbrev pub node_refusal : NodeRead → Refusal
-node_refusal (At n next) = Input
-node_refusal (NoNode r) = r
+abbrev pub place_read : Result RulePlace Refusal → Answer RulePlace
+place_read (Ok p) = got p p.at
+place_read (Err r) = refused r
 
 module _ (file : List ℕ) where
   -- in a book of version v: a rule's kind, its node count and the place of its first node
@@ -62,17 +46,14 @@ module _ (file : List ℕ) where
     n ← field file 1 rules
     find_rule v rule
 
-abbrev pub nowhere : RulePlace
-nowhere = record { version = 0; kind = 0; nodes = 0; at = 0 }
-
 -- a rule of a book, and where it stands in the book's file
 abbrev pub place_at : Book → ℕ → RulePlace
 place_at b i = record { version = b.version; kind = (rule_of b i).kind; nodes = length (rule_of b i).nodes; at = nodes_at b i }
 
--- of no such rule, and of a refused book, nothing
-abbrev pub place_in : Answer Book → ℕ → RulePlace
-place_in (got b after) i = cond (ltb i (length b.rules)) (place_at b i) nowhere
-place_in (refused r) i = nowhere
+-- of no such rule, and of a refused book, none
+abbrev pub place_in : Answer Book → ℕ → Option RulePlace
+place_in (got b after) i = cond (ltb i (length b.rules)) (Some (place_at b i)) None
+place_in (refused r) i = None
 
-abbrev pub place_of : List ℕ → ℕ → RulePlace
+abbrev pub place_of : List ℕ → ℕ → Option RulePlace
 place_of file i = place_in (read_book file) i

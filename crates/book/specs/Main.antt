@@ -1,6 +1,6 @@
 -- The theorems of this layer that are bought, together; each is proved in the file that its proof names.
 -- To believe them, read only the definitions: Book to Postfix in the order of Lib, and those of number and meaning that they name.
-use Rattle.std.specs.Prelude.{ℕ, ◌+◌, ◌*◌, ◌≤◌, ◌<◌, ◌≡◌, refl, ◌↔◌, ◌⊎◌, length, drop}
+use Rattle.std.specs.Prelude.{ℕ, ◌+◌, ◌*◌, ◌≤◌, ◌<◌, ◌≡◌, refl, ◌↔◌, ◌⊎◌, length, drop, Option, Some, None, Result, Ok, Err}
 use mathlib.Core.List.{List, [], ◌∷◌, ◌++◌, map, flatten}
 use Rattle.number.specs.declared.Refusal.{Refusal}
 use Rattle.number.specs.Limits.{rules, nodes}
@@ -12,10 +12,6 @@ use Rattle.meaning.specs.Means.{Matches}
 use Rattle.meaning.specs.Sample.{W}
 use Rattle.book.specs.declared.Node.{Node}
 use Rattle.book.specs.declared.Node.TheVariants.{Either, And, Not}
-use Rattle.book.specs.declared.Checked.{Checked}
-use Rattle.book.specs.declared.Checked.TheVariants.{Counts, Refused}
-use Rattle.book.specs.declared.RuleKind.{RuleKind}
-use Rattle.book.specs.declared.RuleKind.TheVariants.{Kind, NoRule, Unknown}
 use Rattle.book.specs.Book.{Rule, Book, write_node, write_nodes, write_rules, write_book}
 use Rattle.book.specs.Reads.{read_node, read_book}
 use Rattle.book.specs.Valid.{CodesUpTo, Within, ValidRule, ValidBook}
@@ -174,15 +170,15 @@ the_refused_files = lines_told
 -- what the two calls answer on a file that is read as b, and that they answer nothing else: the rule count and all nodes together; the kind of
 -- the rule that has so many before it; and past the last rule that there is none
 pub record ReadCalls (file : List ℕ) (b : Book) : Type 0 where
-  pub check : (r : Checked) → (checked r ≡ check_of file) ↔ (r ≡ Counts (length b.rules) (length (flatten (map (λ (q : Rule). q.nodes) b.rules))))
-  pub rule : (before behind : List Rule) (q : Rule) → b.rules ≡ before ++ (q ∷ behind) → (k : RuleKind)
-      → (kind_told k ≡ kind_of file (length before)) ↔ (k ≡ Kind q.kind)
-  pub past : (i : ℕ) → length b.rules ≤ i → (k : RuleKind) → (kind_told k ≡ kind_of file i) ↔ (k ≡ NoRule)
+  pub check : (r : Result (ℕ × ℕ) Refusal) → (checked r ≡ check_of file) ↔ (r ≡ Ok (length b.rules, length (flatten (map (λ (q : Rule). q.nodes) b.rules))))
+  pub rule : (before behind : List Rule) (q : Rule) → b.rules ≡ before ++ (q ∷ behind) → (k : Result (Option ℕ) Refusal)
+      → (kind_told k ≡ kind_of file (length before)) ↔ (k ≡ Ok (Some q.kind))
+  pub past : (i : ℕ) → length b.rules ≤ i → (k : Result (Option ℕ) Refusal) → (kind_told k ≡ kind_of file i) ↔ (k ≡ Ok None)
 
 -- and on a file that is refused: that refusal, whatever rule is asked for
 pub record RefusedCalls (file : List ℕ) (q : Refusal) : Type 0 where
-  pub check : (r : Checked) → (checked r ≡ check_of file) ↔ (r ≡ Refused q)
-  pub rule : (i : ℕ) (k : RuleKind) → (kind_told k ≡ kind_of file i) ↔ (k ≡ Unknown q)
+  pub check : (r : Result (ℕ × ℕ) Refusal) → (checked r ≡ check_of file) ↔ (r ≡ Err q)
+  pub rule : (i : ℕ) (k : Result (Option ℕ) Refusal) → (kind_told k ≡ kind_of file i) ↔ (k ≡ Err q)
 
 -- for every file; and both calls refuse by the number and at the place that reading the file comes to
 pub record BookCalls (file : List ℕ) : Type 0 where

@@ -1,6 +1,7 @@
 -- What a cut answers and leaves in the lent list of records, for every input: the promise of cut cites this.
 -- Refusal 10 comes first and leaves the records as they were; records past the words are as before the call.
-use Rattle.std.specs.Prelude.{ℕ, cond, List, ◌++◌, length, drop}
+use Rattle.std.specs.Prelude.{ℕ, cond, List, ◌++◌, length, drop, Result, Ok, Err}
+use Rattle.number.specs.declared.Refusal.{Refusal}
 use Rattle.number.specs.declared.Refusal.TheVariants.{Loaded}
 use Rattle.number.specs.Refused.{Outcome}
 use Rattle.number.specs.Refused.Outcome.{gives, refuses}
@@ -9,7 +10,7 @@ use Rattle.meaning.specs.Words.{Found}
 use Rattle.table.specs.Table.{lent, well_formed}
 use Rattle.cutting.specs.declared.Word.{Word}
 use Rattle.cutting.specs.declared.Ended.{Ended}
-use Rattle.cutting.specs.declared.Ended.TheVariants.{Done, Stuck, Full, Refused}
+use Rattle.cutting.specs.declared.Ended.TheVariants.{Done, Stuck, Full}
 use Rattle.cutting.specs.Steps.{first_by}
 use Rattle.cutting.specs.Cut.{Ending, Cut, cut_by}
 use Rattle.cutting.specs.Cut.Ending.{Done as Ending·done, StuckAt, FullAt}
@@ -19,11 +20,11 @@ pub record Report : Type 0 where
   pub ending : Ending
   pub count : ℕ
 
-abbrev pub ended : Ended → Outcome Report
-ended (Done n) = gives (record { ending = Ending·done; count = n })
-ended (Stuck n at) = gives (record { ending = StuckAt at; count = n })
-ended (Full n at) = gives (record { ending = FullAt at; count = n })
-ended (Refused r) = refuses r
+abbrev pub ended : Result Ended Refusal → Outcome Report
+ended (Ok (Done n)) = gives (record { ending = Ending·done; count = n })
+ended (Ok (Stuck n at)) = gives (record { ending = StuckAt at; count = n })
+ended (Ok (Full n at)) = gives (record { ending = FullAt at; count = n })
+ended (Err r) = refuses r
 
 -- the cut of a text from a place on, with room for so many words, whatever finds the first word
 abbrev pub cut_of : (Text → Found) → Text → ℕ → ℕ → Cut

@@ -1,6 +1,7 @@
 -- The theorems of cutting that are bought, together; each is proved in the file that its proof names.
 -- To believe them, read the definitions: Steps, Cut, Tiles, Pieces, Calls, Flat, Left, Promises, Dead, Sample, and meaning's Words.
-use Rattle.std.specs.Prelude.{ℕ, ◌+◌, ◌*◌, ◌/◌, ◌≤◌, ◌≡◌, refl, true, false, List, [], ◌∷◌, map, ◌↔◌, length, take, drop}
+use Rattle.std.specs.Prelude.{ℕ, ◌+◌, ◌*◌, ◌/◌, ◌≤◌, ◌≡◌, refl, true, false, List, [], ◌∷◌, map, ◌↔◌, length, take, drop, Result}
+use Rattle.number.specs.declared.Refusal.{Refusal}
 use Rattle.number.specs.Refused.{row_of}
 use Rattle.number.specs.Refused.Row.{row}
 use Rattle.number.specs.Refused.Outcome.{gives}
@@ -66,9 +67,9 @@ the_cells = cells_left
 
 -- and this is what the code's two calls promise, `cut` from the start of the text
 pub the_promises : (s : ℕ) (labels targets : List ℕ) (text : Text) → well_formed s labels targets ≡ true
-    → ((before after : List Word) (r : Ended) → CutsWords s labels targets text before after r
+    → ((before after : List Word) (r : Result Ended Refusal) → CutsWords s labels targets text before after r
     → Leaves (λ ws. ws) (FirstBy (lent s labels targets)) text 0 (length before) before (ended r) after)
-    × ((at : ℕ) (before after : List ℕ) (r : Ended) → CutsInto s labels targets text at before after r
+    × ((at : ℕ) (before after : List ℕ) (r : Result Ended Refusal) → CutsInto s labels targets text at before after r
     → Leaves numbers_of (FirstBy (lent s labels targets)) text at (length before / 3) before (ended r) after)
 the_promises s labels targets text e = (
   λ before after r p. rw (p.answer, p.records) (the_records s labels targets text 0 e before),

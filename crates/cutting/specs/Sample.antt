@@ -1,7 +1,8 @@
 -- Cuts worked by hand, as one list: lent table, text, place and records, then the code's answer and the records afterwards; the checker computes them all.
 -- The table of W as its build numbers the states; the two rules of a known wrong turn; tables whose start is labelled; and some that are not well formed.
-use Rattle.std.specs.Prelude.{ℕ, ◌+◌, ◌≡◌, refl, replicate}
+use Rattle.std.specs.Prelude.{ℕ, ◌+◌, ◌≡◌, refl, replicate, Result, Ok, Err}
 use mathlib.Core.List.{List, [], ◌∷◌, ◌++◌, map, flat_map}
+use Rattle.number.specs.declared.Refusal.{Refusal}
 use Rattle.number.specs.declared.Refusal.TheVariants.{Loaded}
 use Rattle.meaning.specs.Re.{Text}
 use Rattle.meaning.specs.Sample.{t, o, m, space, seven, hash}
@@ -10,7 +11,7 @@ use Rattle.meaning.specs.Words.Found.{Stuck as Found·stuck, Word as Found·word
 use Rattle.table.specs.Table.{Table, all, well_formed}
 use Rattle.cutting.specs.declared.Word.{Word}
 use Rattle.cutting.specs.declared.Ended.{Ended}
-use Rattle.cutting.specs.declared.Ended.TheVariants.{Done, Stuck, Full, Refused}
+use Rattle.cutting.specs.declared.Ended.TheVariants.{Done, Stuck, Full}
 use Rattle.cutting.specs.Steps.{first_by}
 use Rattle.cutting.specs.Cut.{cut_by}
 use Rattle.cutting.specs.Calls.{ended, Recorded, cut_from_of}
@@ -97,41 +98,41 @@ old n = record { start = 900 + n; len = 800 + n; rule = 700 + n }
 
 -- a lent table, a text and a place in it, records; the answer with count and place, and the records afterwards
 pub data Line : Type 0 where
-  line : Table → Text → ℕ → List Word → Ended → List Word → Line
+  line : Table → Text → ℕ → List Word → Result Ended Refusal → List Word → Line
 
 unfoldable pub lines : List Line
 lines =
     -- the sample's text; a record behind the words stays
-    line table_w (t ∷ o ∷ space ∷ t ∷ o ∷ m ∷ space ∷ seven ∷ []) 0 (old 1 ∷ old 2 ∷ old 3 ∷ old 4 ∷ old 5 ∷ old 6 ∷ []) (Done 5)
+    line table_w (t ∷ o ∷ space ∷ t ∷ o ∷ m ∷ space ∷ seven ∷ []) 0 (old 1 ∷ old 2 ∷ old 3 ∷ old 4 ∷ old 5 ∷ old 6 ∷ []) (Ok (Done 5))
     (word 0 2 0 ∷ word 2 1 3 ∷ word 3 3 1 ∷ word 6 1 3 ∷ word 7 1 2 ∷ old 6 ∷ []) ∷
     -- the longest word, not the first that has a label; the last labelled place, not where the walk died
-    line table_w (t ∷ o ∷ m ∷ []) 0 (old 1 ∷ old 2 ∷ []) (Done 1) (word 0 3 1 ∷ old 2 ∷ []) ∷
-    line table_w (t ∷ seven ∷ []) 0 (old 1 ∷ old 2 ∷ []) (Done 2) (word 0 1 1 ∷ word 1 1 2 ∷ []) ∷
-    line table_ones (one ∷ dot ∷ dot ∷ []) 0 (old 1 ∷ old 2 ∷ []) (Stuck 1 1) (word 0 1 0 ∷ old 2 ∷ []) ∷
-    line table_ones (one ∷ dot ∷ one ∷ dot ∷ one ∷ []) 0 (old 1 ∷ old 2 ∷ []) (Stuck 1 3) (word 0 3 1 ∷ old 2 ∷ []) ∷
+    line table_w (t ∷ o ∷ m ∷ []) 0 (old 1 ∷ old 2 ∷ []) (Ok (Done 1)) (word 0 3 1 ∷ old 2 ∷ []) ∷
+    line table_w (t ∷ seven ∷ []) 0 (old 1 ∷ old 2 ∷ []) (Ok (Done 2)) (word 0 1 1 ∷ word 1 1 2 ∷ []) ∷
+    line table_ones (one ∷ dot ∷ dot ∷ []) 0 (old 1 ∷ old 2 ∷ []) (Ok (Stuck 1 1)) (word 0 1 0 ∷ old 2 ∷ []) ∷
+    line table_ones (one ∷ dot ∷ one ∷ dot ∷ one ∷ []) 0 (old 1 ∷ old 2 ∷ []) (Ok (Stuck 1 3)) (word 0 3 1 ∷ old 2 ∷ []) ∷
     -- no record is free: Full where a word starts, Stuck where none does, Done where the text ends
-    line table_w (t ∷ o ∷ []) 0 [] (Full 0 0) [] ∷
-    line table_w (hash ∷ []) 0 [] (Stuck 0 0) [] ∷
-    line table_w [] 0 [] (Done 0) [] ∷
-    line table_w (t ∷ o ∷ space ∷ seven ∷ []) 0 (old 1 ∷ old 2 ∷ []) (Full 2 3) (word 0 2 0 ∷ word 2 1 3 ∷ []) ∷
-    line table_w (t ∷ o ∷ hash ∷ []) 0 (old 1 ∷ []) (Stuck 1 2) (word 0 2 0 ∷ []) ∷
-    line table_w (t ∷ o ∷ []) 0 (old 1 ∷ []) (Done 1) (word 0 2 0 ∷ []) ∷
+    line table_w (t ∷ o ∷ []) 0 [] (Ok (Full 0 0)) [] ∷
+    line table_w (hash ∷ []) 0 [] (Ok (Stuck 0 0)) [] ∷
+    line table_w [] 0 [] (Ok (Done 0)) [] ∷
+    line table_w (t ∷ o ∷ space ∷ seven ∷ []) 0 (old 1 ∷ old 2 ∷ []) (Ok (Full 2 3)) (word 0 2 0 ∷ word 2 1 3 ∷ []) ∷
+    line table_w (t ∷ o ∷ hash ∷ []) 0 (old 1 ∷ []) (Ok (Stuck 1 2)) (word 0 2 0 ∷ []) ∷
+    line table_w (t ∷ o ∷ []) 0 (old 1 ∷ []) (Ok (Done 1)) (word 0 2 0 ∷ []) ∷
     -- from a place on, which is the place in the whole text; at its end; past it
-    line table_w (t ∷ o ∷ space ∷ t ∷ o ∷ m ∷ space ∷ seven ∷ []) 3 (old 1 ∷ old 2 ∷ []) (Full 2 7) (word 3 3 1 ∷ word 6 1 3 ∷ []) ∷
-    line table_w (t ∷ o ∷ hash ∷ []) 1 (old 1 ∷ old 2 ∷ []) (Stuck 1 2) (word 1 1 1 ∷ old 2 ∷ []) ∷
-    line table_w (t ∷ o ∷ []) 2 (old 1 ∷ []) (Done 0) (old 1 ∷ []) ∷
-    line table_w (t ∷ o ∷ []) 9 [] (Done 0) [] ∷
+    line table_w (t ∷ o ∷ space ∷ t ∷ o ∷ m ∷ space ∷ seven ∷ []) 3 (old 1 ∷ old 2 ∷ []) (Ok (Full 2 7)) (word 3 3 1 ∷ word 6 1 3 ∷ []) ∷
+    line table_w (t ∷ o ∷ hash ∷ []) 1 (old 1 ∷ old 2 ∷ []) (Ok (Stuck 1 2)) (word 1 1 1 ∷ old 2 ∷ []) ∷
+    line table_w (t ∷ o ∷ []) 2 (old 1 ∷ []) (Ok (Done 0)) (old 1 ∷ []) ∷
+    line table_w (t ∷ o ∷ []) 9 [] (Ok (Done 0)) [] ∷
     -- a rule that matches the empty text gives no empty word
-    line table_sevens (seven ∷ seven ∷ []) 0 (old 1 ∷ old 2 ∷ []) (Done 1) (word 0 2 0 ∷ old 2 ∷ []) ∷
-    line table_sevens (seven ∷ hash ∷ []) 0 (old 1 ∷ old 2 ∷ []) (Stuck 1 1) (word 0 1 0 ∷ old 2 ∷ []) ∷
-    line table_sevens (hash ∷ []) 0 (old 1 ∷ []) (Stuck 0 0) (old 1 ∷ []) ∷
+    line table_sevens (seven ∷ seven ∷ []) 0 (old 1 ∷ old 2 ∷ []) (Ok (Done 1)) (word 0 2 0 ∷ old 2 ∷ []) ∷
+    line table_sevens (seven ∷ hash ∷ []) 0 (old 1 ∷ old 2 ∷ []) (Ok (Stuck 1 1)) (word 0 1 0 ∷ old 2 ∷ []) ∷
+    line table_sevens (hash ∷ []) 0 (old 1 ∷ []) (Ok (Stuck 0 0)) (old 1 ∷ []) ∷
     -- a label names the rule below it, however many rules the book has
-    line table_all (t ∷ o ∷ []) 0 (old 1 ∷ []) (Done 1) (word 0 2 31 ∷ []) ∷
+    line table_all (t ∷ o ∷ []) 0 (old 1 ∷ []) (Ok (Done 1)) (word 0 2 31 ∷ []) ∷
     -- not well formed, whatever the text is
-    line table_none (t ∷ o ∷ []) 0 (old 1 ∷ []) (Refused Loaded) (old 1 ∷ []) ∷
-    line table_none [] 0 [] (Refused Loaded) [] ∷
-    line table_label (t ∷ o ∷ []) 0 (old 1 ∷ []) (Refused Loaded) (old 1 ∷ []) ∷
-    line table_target (t ∷ o ∷ []) 9 (old 1 ∷ []) (Refused Loaded) (old 1 ∷ []) ∷
+    line table_none (t ∷ o ∷ []) 0 (old 1 ∷ []) (Err Loaded) (old 1 ∷ []) ∷
+    line table_none [] 0 [] (Err Loaded) [] ∷
+    line table_label (t ∷ o ∷ []) 0 (old 1 ∷ []) (Err Loaded) (old 1 ∷ []) ∷
+    line table_target (t ∷ o ∷ []) 9 (old 1 ∷ []) (Err Loaded) (old 1 ∷ []) ∷
     []
 
 -- what a line states of the call on records, and what the call answers

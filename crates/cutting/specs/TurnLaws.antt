@@ -1,47 +1,25 @@
--- What a step tells of the rest of a cut, whatever finds the first word: it stops with the cut's answer, or the rest is its word before a shorter rest.
--- And where a loop over steps stands, for any memory that the words are laid into: what remains, behind what was laid, is the whole.
+-- What a turn of a cut does to what remains of it, whatever finds the first word and whatever memory is: one law for each way that the code goes on or answers.
+-- At the start nothing was put yet, and what remains is the whole.
 use Prim.Native.Nat.{ℕ, zero, suc, ◌+◌, ◌-◌, ◌<◌, ◌≤◌}
-use Rattle.std.proofs.Common.{arith, sym, ap, ◌∙◌, ltb-true, ltb-false, lt-ltb, le-ltb, drop_of_length-le, drop-drop}
-use Rattle.std.specs.Prelude.{◌≡◌, true, false, [], ◌∷◌, ltb, length, get_or, drop}
+use Rattle.std.proofs.Common.{arith, add-zero, zero-add, sym, ap, ◌∙◌, drop_of_length-le, drop-drop}
+use Rattle.std.specs.Prelude.{◌≡◌, true, Result, Ok, List, [], ◌∷◌, length, get_or, drop}
 use Rattle.std.proofs.Math.Path.{refl}
-use Rattle.number.specs.Refused.{Outcome}
-use Rattle.number.specs.Refused.Outcome.{gives}
-use Rattle.number.specs.Branch.{by_cond}
+use Rattle.number.specs.declared.Refusal.{Refusal}
 use Rattle.number.specs.Lists.{drop_one}
 use Rattle.meaning.specs.Re.{Text}
 use Rattle.meaning.specs.Words.{Found}
 use Rattle.meaning.specs.Words.Found.{Stuck as Found·stuck, Word as Found·word}
+use Rattle.table.specs.Table.{lent, well_formed}
 use Rattle.cutting.specs.declared.Word.{Word}
-use Rattle.cutting.specs.declared.Place.{Place}
-use Rattle.cutting.specs.declared.Step.{Step}
 use Rattle.cutting.specs.declared.Ended.{Ended}
 use Rattle.cutting.specs.declared.Ended.TheVariants.{Done, Stuck, Full}
-use Rattle.cutting.specs.Cut.{Ending, Cut, word_at, ends, before, cut_by}
+use Rattle.cutting.specs.Steps.{first_by}
+use Rattle.cutting.specs.Cut.{word_at, ends, before, cut_by}
 use Rattle.cutting.specs.Cut.Ending.{Done as Ending·done, StuckAt, FullAt}
-use Rattle.cutting.specs.Calls.{Report, ended, cut_of}
-use Rattle.cutting.specs.Turns.{halted, past, step_for, step_of, cut_left}
-
--- ---- a step, one law for each return of the code that decides it
-
-module _ (first : Text → Found) (text : Text) (p : Place) (k room : ℕ) where
-  pub step_over : length text ≤ p.at → halted p (Done k) ≡ step_of first text p k room
-  unfolding step_of
-  step_over h = simp (le-ltb _ _ h)
-
-  module _ (h : p.at < length text) where
-    step_found : (f : Found) → f ≡ first (drop p.at text) → step_for f p k room ≡ step_of first text p k room
-    unfolding step_of
-    step_found f e = simp (lt-ltb _ _ h, e)
-
-    pub step_stuck : Found·stuck ≡ first (drop p.at text) → halted p (Stuck k p.at) ≡ step_of first text p k room
-    step_stuck e = step_found Found·stuck e
-
-    pub step_full : (n r : ℕ) → Found·word n r ≡ first (drop p.at text) → room ≤ k → halted p (Full k p.at) ≡ step_of first text p k room
-    step_full n r e f = rw (le-ltb k room f) at (step_found (Found·word n r) e)
-
-    pub step_goes : (n r : ℕ) → Found·word n r ≡ first (drop p.at text) → k < room
-        → record { go = true; word = word_at p.at n r; next = past p n; end = Done k } ≡ step_of first text p k room
-    step_goes n r e f = rw (lt-ltb k room f) at (step_found (Found·word n r) e)
+use Rattle.cutting.specs.Calls.{ended, cut_of}
+use Rattle.cutting.specs.Put.{Held, put_all, held}
+use Rattle.cutting.specs.Turns.{cut_left, Stands}
+use Rattle.cutting.specs.Promises.{CutsSlots}
 
 -- ---- one step of the definition
 
@@ -70,93 +48,74 @@ module _ (first : Text → Found) where
       unfolding cut_by
       cut_word room = rw (e, cut_by)
 
--- ---- where a loop over steps stands
+-- ---- what remains at a place, by what is found there
 
-apart : true ≡ false → ⊥
-apart e = let z : ◌≡◌ {A = ℕ} 0 1 = cc in omega arith
+module _ (first : Text → Found) (text : Text) (room at k : ℕ) where
+  left_over : length text ≤ at → cut_left first text room at k ≡ ends Ending·done
+  left_over h = cut_past first text at (room - k) h
 
--- M is what words are laid into, R the answer with the memory; C is what can be left of a cut, which may be a refusal too: `left` is left at a place
--- where k records are in use, `join` puts a word before it, and `lay` lays it from record k on
-module _ {M R C : Type 0} (over : Outcome Report → M → R) (lay : ℕ → C → M → R) (join : Word → C → C) (left : ℕ → ℕ → C) (room : ℕ) where
-  -- what a step tells
-  pub data Turn (p : Place) (k : ℕ) : Step → Type 0 where
-    stops : (answer : Ended) → ((m : M) → lay k (left p.at k) m ≡ over (ended answer) m) → Turn p k (halted p answer)
-    goes : (n r : ℕ) → k < room → left p.at k ≡ join (word_at p.at n r) (left (p.at + n) (k + 1))
-        → Turn p k (record { go = true; word = word_at p.at n r; next = past p n; end = Done k })
-
-  -- Known is what is known of the dead state that goes along with a place
-  module _ (Known : ℕ → Type 0) (whole : R) where
-    -- a word to store, and what remains behind it
-    pub record Goes (k : ℕ) (s : Step) (m : M) : Type 0 where
-      pub known : Known s.next.dead
-      pub free : k < room
-      pub remains : lay k (join s.word (left s.next.at (k + 1))) m ≡ whole
-
-    pub record Stands (k : ℕ) (s : Step) (m : M) : Type 0 where
-      pub stopped : s.go ≡ false → over (ended s.end) m ≡ whole
-      pub going : s.go ≡ true → Goes k s m
-
-    pub stands_stopped : (k : ℕ) (p : Place) (answer : Ended) (m : M) → over (ended answer) m ≡ whole → Stands k (halted p answer) m
-    stands_stopped k p answer m e = record { stopped = λ _. e; going = λ h. absurd (apart (sym h)) }
-
-    pub stands_at : {p : Place} {k : ℕ} {s : Step} → Known p.dead → (m : M) → lay k (left p.at k) m ≡ whole → Turn p k s → Stands k s m
-    stands_at {p} {k} w m e (stops answer d) = stands_stopped k p answer m (sym (d m) ∙ e)
-    stands_at {p} {k} w m e (goes n r f d) =
-        record {
-          stopped = λ h. absurd (apart h);
-          going = λ _. record { known = w; free = f; remains = ap (λ (c : C). lay k c m) (sym d) ∙ e };
-        }
-
-    -- at the next step, where memory was changed as a word's record asks
-    pub stands_next : {k : ℕ} {s s' : Step} {m : M} → Goes k s m → (m' : M) → ((c : C) → lay (k + 1) c m' ≡ lay k (join s.word c) m)
-        → Turn s.next (k + 1) s' → Stands (k + 1) s' m'
-    stands_next g m' put t = stands_at g.known m' (put _ ∙ g.remains) t
-
--- ---- a step of a cut tells the rest
-
-module _ {M R : Type 0} (over : Outcome Report → M → R) (lay : ℕ → Cut → M → R)
-    (none : (k : ℕ) (e : Ending) (m : M) → lay k (ends e) m ≡ over (gives (record { ending = e; count = k })) m)
-    (first : Text → Found) (text : Text) (room : ℕ) (p : Place) (k : ℕ) where
-  abbrev Tells : Step → Type 0
-  Tells = Turn over lay before (cut_left first text room) room p k
-
-  ends_as : (e : Ending) (answer : Ended) → ended answer ≡ gives (record { ending = e; count = k }) → cut_left first text room p.at k ≡ ends e
-      → Tells (halted p answer)
-  ends_as e answer d is = stops answer (λ m. ap (λ (c : Cut). lay k c m) is ∙ none k e m ∙ ap (λ (o : Outcome Report). over o m) (sym d))
-
-  module _ (h : p.at < length text) where
+  module _ (h : at < length text) where
     abbrev rest : Text
-    rest = drop (p.at + 1) text
+    rest = drop (at + 1) text
 
     abbrev byte : ℕ
-    byte = get_or text p.at 0
+    byte = get_or text at 0
 
-    found_at : (f : Found) → first (drop p.at text) ≡ f → first (byte ∷ rest) ≡ f
-    found_at f e = rw (drop_one text p.at h) at e
+    found_at : (f : Found) → f ≡ first (drop at text) → first (byte ∷ rest) ≡ f
+    found_at f e = rw (drop_one text at h) at (sym e)
 
-    turn_full : (n r : ℕ) → first (drop p.at text) ≡ Found·word n r → room ≤ k → Tells (halted p (Full k p.at))
-    turn_full n r e f =
-        let z : room - k ≡ 0 = omega arith in
-        ends_as (FullAt p.at) (Full k p.at) refl
-        (rw (z, drop_one text p.at h) (cut_full first p.at byte rest n r (found_at (Found·word n r) e)))
+    left_stuck : Found·stuck ≡ first (drop at text) → cut_left first text room at k ≡ ends (StuckAt at)
+    left_stuck e = rw (drop_one text at h) (cut_stuck first at byte rest (room - k) (found_at Found·stuck e))
 
-    turn_goes : (n r : ℕ) → first (drop p.at text) ≡ Found·word n r → k < room
-        → Tells (record { go = true; word = word_at p.at n r; next = past p n; end = Done k })
-    turn_goes n r e f =
-        let z : room - k ≡ suc (room - (k + 1)) = omega arith in
-        goes n r f
-        (rw (z, ← drop-drop n p.at text, drop_one text p.at h)
-        (cut_word first p.at byte rest n r (found_at (Found·word n r) e) (room - (k + 1))))
+    module _ (n r : ℕ) (e : Found·word n r ≡ first (drop at text)) where
+      left_full : room ≤ k → cut_left first text room at k ≡ ends (FullAt at)
+      left_full f =
+          let z : room - k ≡ 0 = omega arith in
+          rw (z, drop_one text at h) (cut_full first at byte rest n r (found_at (Found·word n r) e))
 
-    turn_for : (f : Found) → first (drop p.at text) ≡ f → Tells (step_for f p k room)
-    turn_for Found·stuck e =
-        ends_as (StuckAt p.at) (Stuck k p.at) refl
-        (rw (drop_one text p.at h) (cut_stuck first p.at byte rest (room - k) (found_at Found·stuck e)))
-    turn_for (Found·word n r) e =
-        by_cond Tells (ltb k room) (λ f. turn_goes n r e (ltb-true k room f)) (λ f. turn_full n r e (ltb-false k room f))
+      left_word : k < room → cut_left first text room at k ≡ before (word_at at n r) (cut_left first text room (at + n) (k + 1))
+      left_word f =
+          let z : room - k ≡ suc (room - (k + 1)) = omega arith in
+          rw (z, ← drop-drop n at text, drop_one text at h)
+          (cut_word first at byte rest n r (found_at (Found·word n r) e) (room - (k + 1)))
 
-  pub turn : Tells (step_of first text p k room)
-  unfolding step_of
-  turn =
-      by_cond Tells (ltb p.at (length text)) (λ h. turn_for (ltb-true p.at (length text) h) (first (drop p.at text)) refl)
-      (λ h. ends_as Ending·done (Done k) refl (cut_past first text p.at (room - k) (ltb-false p.at (length text) h)))
+-- ---- where a call stands
+
+module _ {M : Type 0} (put : M → ℕ → Word → M) (first : Text → Found) (text : Text) (room : ℕ) where
+  -- nothing was put yet
+  pub stands_first : (at : ℕ) (m : M) → Stands put first text room (held put (cut_of first text at room) m) at 0 m
+  stands_first at m =
+      let all : room - 0 ≡ room = omega arith in
+      record { few = omega arith; remains = rw (all, zero-add) }
+
+  module _ {whole : Held M} {at k : ℕ} {m : M} (s : Stands put first text room whole at k m) where
+    pub stands_done : length text ≤ at → record { answer = ended (Ok (Done k)); memory = m } ≡ whole
+    unfolding put_all
+    stands_done h = rw (left_over first text room at k h, add-zero) at s.remains
+
+    module _ (h : at < length text) where
+      pub stands_stuck : Found·stuck ≡ first (drop at text) → record { answer = ended (Ok (Stuck k at)); memory = m } ≡ whole
+      unfolding put_all
+      stands_stuck e = rw (left_stuck first text room at k h e, add-zero) at s.remains
+
+      module _ (n r : ℕ) (e : Found·word n r ≡ first (drop at text)) where
+        pub stands_full : room ≤ k → record { answer = ended (Ok (Full k at)); memory = m } ≡ whole
+        unfolding put_all
+        stands_full f = rw (left_full first text room at k h n r e f, add-zero) at s.remains
+
+        pub stands_word : k < room → Stands put first text room whole (at + n) (k + 1) (put m k (word_at at n r))
+        unfolding put_all
+        stands_word f =
+            let more = cut_left first text room (at + n) (k + 1) in
+            let count : k + suc (length more.words) ≡ k + 1 + length more.words = omega arith in
+            let one : suc k ≡ k + 1 = omega arith in
+            let behind_all = rw (left_word first text room at k h n r e f, put_all, count, one) at s.remains in
+            record { few = omega arith; remains = behind_all }
+
+-- ---- what a call promises by a table that is well formed
+
+module _ {M : Type 0} (room : M → ℕ) (put : M → ℕ → Word → M) (s : ℕ) (labels targets : List ℕ) (text : Text) (at : ℕ) where
+  pub slots_end : {m m' : M} {r : Result Ended Refusal} → well_formed s labels targets ≡ true
+      → record { answer = ended r; memory = m' } ≡ held put (cut_of (first_by (lent s labels targets)) text at (room m)) m
+      → CutsSlots room put s labels targets text at m m' r
+  slots_end f e = record { answer = rw f (ap (λ (x : Held M). x.answer) e); memory = rw f (ap (λ (x : Held M). x.memory) e) }

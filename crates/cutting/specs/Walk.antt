@@ -1,20 +1,12 @@
--- The walk for a first word in lent memory, and the first step of a cut by it: where a walk stays, its dead state, its runs, and its answer as code gives it.
--- What a step is, whatever finds the first word, is specs/Turns.antt's.
-use Rattle.std.specs.Prelude.{ℕ, ◌+◌, ◌*◌, ◌<◌, ◌≤◌, ◌≡◌, cond, List, length, get_or}
-use Rattle.number.specs.declared.Refusal.TheVariants.{Loaded}
+-- The walk for a first word in lent memory: where a walk stays, its dead state, its runs, and its answer as code gives it.
+-- What a cut makes of the words, whatever finds them, is specs/Turns.antt's.
+use Rattle.std.specs.Prelude.{ℕ, ◌+◌, ◌*◌, ◌<◌, ◌≤◌, ◌≡◌, List, length, get_or, Option, Some, None}
 use Rattle.number.specs.Limits.{bytes}
 use Rattle.meaning.specs.Re.{Text}
 use Rattle.meaning.specs.Words.{Found}
 use Rattle.meaning.specs.Words.Found.{Stuck as Found·stuck, Word as Found·word}
-use Rattle.table.specs.Table.{lent, well_formed}
-use Rattle.cutting.specs.declared.Next.{Next}
-use Rattle.cutting.specs.declared.Next.TheVariants.{Word as Next·word, None}
 use Rattle.cutting.specs.declared.Run.{Run}
-use Rattle.cutting.specs.declared.Step.{Step}
-use Rattle.cutting.specs.declared.Ended.TheVariants.{Refused}
-use Rattle.cutting.specs.Steps.{first_by}
 use Rattle.cutting.specs.Dead.{dead_of}
-use Rattle.cutting.specs.Turns.{halted, step_of}
 
 -- lent memory in which a walk stays: room for the states, a first state, and targets that are states
 pub record Walkable (count : ℕ) (labels targets : List ℕ) : Type 0 where
@@ -40,13 +32,7 @@ pub record Ran (targets : List ℕ) (text : Text) (state from dead : ℕ) (r : R
   pub leaves : r.end < length text → (r.then ≡ led targets text state r.end) × (led targets text state r.end ≡ state → ⊥)
   pub over : r.end ≡ length text → r.then ≡ dead
 
--- what the walk found
-abbrev pub next : Next → Found
-next (Next·word n r) = Found·word n r
+-- what the walk found: a word's length and its rule
+abbrev pub next : Option (ℕ × ℕ) → Found
+next (Some (n, r)) = Found·word n r
 next None = Found·stuck
-
--- the first step of a call, which tests the lent table and finds its dead state
-unfoldable pub first_step_of : ℕ → List ℕ → List ℕ → Text → ℕ → ℕ → Step
-first_step_of s labels targets text at room =
-    cond (well_formed s labels targets) (step_of (first_by (lent s labels targets)) text (record { at = at; dead = dead_of s labels targets }) 0 room)
-    (halted (record { at = at; dead = s }) (Refused Loaded))

@@ -2,16 +2,18 @@
 // Words go into a lent list of records or into plain cells; what a cut answers and leaves is specs/Calls.antt's and specs/Flat.antt's.
 #![tactic(auto)]
 
-ghost use Rattle.std.specs.Prelude.{◌≡◌, ◌<◌, ◌≤◌, ◌+◌, ◌*◌, ◌-◌, length, drop, set};
+ghost use Rattle.std.specs.Prelude.{◌≡◌, ◌<◌, ◌≤◌, ◌+◌, ◌*◌, ◌-◌, ◌/◌, ℕ, List, length, drop, set};
 ghost use Rattle.number.specs.Limits.{bytes};
 ghost use Rattle.meaning.specs.Words.{better};
 ghost use Rattle.meaning.specs.Words.Found.{Stuck};
 ghost use Rattle.table.specs.Table.{lent};
+ghost use Rattle.cutting.specs.declared.Word.{Word};
 ghost use Rattle.cutting.specs.Steps.{first_by};
+ghost use Rattle.cutting.specs.Flat.{record_cells};
+ghost use Rattle.cutting.specs.Put.{put_cells};
 ghost use Rattle.cutting.specs.Dead.{dead, dead_of};
-ghost use Rattle.cutting.specs.Turns.{halted, step_of};
-ghost use Rattle.cutting.specs.Walk.{Walkable, Ready, Ran, next, first_step_of};
-ghost use Rattle.cutting.specs.Promises.{CutsInto, CutsWords};
+ghost use Rattle.cutting.specs.Walk.{Walkable, Ready, Ran, next};
+ghost use Rattle.cutting.specs.Promises.{CutsInto, CutsWords, CutsSlots};
 
 use number::Refusal;
 use number::limits::BYTES;
@@ -27,43 +29,20 @@ pub struct Word {
     pub rule: usize,
 }
 
-// How a cut ended: with so many words; stuck or full, with so many words and the place; or why it was refused.
-#[derive(Clone, Copy)]
+// How a cut ended: with so many words; stuck or full, with so many words and the place.
+#[derive(Clone, Copy, PartialEq, Eq)]
 pub enum Ended {
     Done(usize),
     Stuck(usize, usize),
     Full(usize, usize),
-    Refused(Refusal),
 }
 
-// The first word at a place: its length and its rule.
-#[derive(Clone, Copy)]
-pub enum Next {
-    Word(usize, usize),
-    None,
-}
-
-// Where a cut goes on: the place in the text, and the table's dead state, in which the walk for a word stops.
-#[derive(Clone, Copy)]
-struct Place {
-    pub at: usize,
-    pub dead: usize,
-}
-
-// Where the bytes that stay in a state end, and the state that the byte there leads to: the dead one where the text ends.
+// Where the bytes that stay in a state end, and the state that the byte there leads to. It is the dead one where the text ends, since no label
+// follows either way, and one comparison tells both.
 #[derive(Clone, Copy)]
 struct Run {
     pub end: usize,
     pub then: usize,
-}
-
-// One step of a cut: a word to store and the place after it, or the cut's answer.
-#[derive(Clone, Copy)]
-struct Step {
-    pub go: bool,
-    pub word: Word,
-    pub next: Place,
-    pub end: Ended,
 }
 
 // A state has no label, and no byte leads out of it. Where the first target leads elsewhere it tells that alone; where it leads back, all
@@ -81,40 +60,37 @@ fn is_dead<'a>(labels: &'a [u8], targets: &'a [u8], state: usize) -> bool
         return false;
     }
     let mut stays = true;
-    let mut c: usize = 0;
-    while c < BYTES {
+    for c in 0..BYTES {
         if targets[row + c] != first {
             stays = false;
         }
-        c += 1;
     }
     stays
 }
 
 // The first dead state, or the count of states where there is none.
+// Kept as a number, since the walk compares each state with it: an Option would be turned back into this number before the first word.
 pub fn dead_state<'a>(count: usize, labels: &'a [u8], targets: &'a [u8]) -> usize
     requires { Walkable count labels.now targets.now }
     ensures { result ≡ dead_of count labels.now targets.now }
 {
-    let mut s: usize = 0;
-    while s < count {
+    for s in 0..count {
         if is_dead(labels, targets, s) {
             return s;
         }
-        s += 1;
     }
     count
 }
 
-// The word that ends before `best`, if a label was met.
-fn best_word(at: usize, best: usize, label: usize) -> Next
+// The word that ends before `best`, if a label was met. Label 0 is the table's own word for no rule.
+fn best_word(at: usize, best: usize, label: usize) -> Option<(usize, usize)>
     requires { at ≤ best }
     ensures { next result ≡ better (best - at) label Stuck }
 {
     if label == 0 {
-        return Next::None;
+        return None;
     }
-    Next::Word(best - at, label - 1)
+    Some((best - at, label - 1))
 }
 
 // Goes over the bytes that stay in a state. Each target is compared with the state at hand, so that no load waits for the one before.
@@ -123,15 +99,16 @@ fn run_from<'a>(targets: &'a [u8], text: &'a [u8], state: usize, from: usize, de
     ensures { Ran targets.now text.now state from dead result }
 {
     let row = state * BYTES;
-    let mut i = from;
-    while i < text.len() {
+    for i in from..text.len() {
         let then = targets[row + text[i] as usize] as usize;
         if then != state {
             return Run { end: i, then: then };
         }
-        i += 1;
     }
-    Run { end: i, then: dead }
+    Run {
+        end: text.len(),
+        then: dead,
+    }
 }
 
 // Walks the text once from a place on, run by run, and keeps the last labelled place.
@@ -145,16 +122,16 @@ pub fn next_word<'a>(
     text: &'a [u8],
     at: usize,
     dead: usize,
-) -> Next
+) -> Option<(usize, usize)>
     requires { Ready count labels.now targets.now dead }
     ensures { next result ≡ first_by (lent count labels.now targets.now) (drop at text.now) }
 {
     if text.len() <= at {
-        return Next::None;
+        return None;
     }
     let mut state = targets[text[at] as usize] as usize;
     if state == dead {
-        return Next::None;
+        return None;
     }
     let mut end = at;
     let mut best = at;
@@ -177,84 +154,99 @@ pub fn next_word<'a>(
     }
 }
 
-// A step that stops a cut.
-fn halt(place: Place, answer: Ended) -> Step
-    ensures { result ≡ halted place answer }
+// A word into a list at a place.
+fn put_word(words: &mut [Word], at: usize, w: Word)
+    requires { at < length words.old }
+    ensures { words.new ≡ set words.old at w }
 {
-    Step {
-        go: false,
-        word: Word {
-            start: place.at,
-            len: 0,
-            rule: 0,
-        },
-        next: place,
-        end: answer,
+    words[at] = w;
+}
+
+// What a slice is made of that words are put into, one after another: for how many it has room, and what it is with the word of a number in it.
+trait Slot {
+    ghost room: { List Self → ℕ };
+
+    ghost put: { List Self → ℕ → Word → List Self };
+
+    fn room(slots: &[Self]) -> usize
+        ensures { result ≡ room slots.now };
+
+    fn put(slots: &mut [Self], k: usize, word: Word)
+        requires { k < room slots.old }
+        ensures put { slots.new ≡ put slots.old k word }
+        ensures room { room slots.new ≡ room slots.old };
+}
+
+impl Slot for Word {
+    ghost room = { λ words. length words };
+
+    ghost put = { λ words k w. set words k w };
+
+    fn room(words: &[Word]) -> usize {
+        words.len()
+    }
+
+    fn put(words: &mut [Word], k: usize, word: Word) {
+        put_word(words, k, word);
     }
 }
 
-// What is next at a place, where k records of `room` are in use.
-fn next_step<'a>(
-    count: usize,
-    labels: &'a [u8],
-    targets: &'a [u8],
-    text: &'a [u8],
-    place: Place,
-    k: usize,
-    room: usize,
-) -> Step
-    requires { Ready count labels.now targets.now place.dead }
-    ensures { result ≡ step_of (first_by (lent count labels.now targets.now)) text.now place k room }
-{
-    let at = place.at;
-    let dead = place.dead;
-    if text.len() <= at {
-        return halt(place, Ended::Done(k));
+// Three cells for each word.
+impl Slot for usize {
+    ghost room = { λ cells. length cells / record_cells };
+
+    ghost put = { put_cells };
+
+    fn room(cells: &[usize]) -> usize {
+        cells.len() / RECORD_CELLS
     }
-    match next_word(count, labels, targets, text, at, dead) {
-        Next::Word(len, rule) => {
-            if room <= k {
-                return halt(place, Ended::Full(k, at));
-            }
-            Step {
-                go: true,
-                word: Word {
-                    start: at,
-                    len: len,
-                    rule: rule,
-                },
-                next: Place {
-                    at: at + len,
-                    dead: dead,
-                },
-                end: Ended::Done(k),
-            }
-        }
-        Next::None => halt(place, Ended::Stuck(k, at)),
+
+    fn put(cells: &mut [usize], k: usize, word: Word) {
+        let cell = RECORD_CELLS * k;
+        cells[cell] = word.start;
+        cells[cell + 1] = word.len;
+        cells[cell + 2] = word.rule;
     }
 }
 
-// The first step of a cut, which tests the lent table and finds its dead state once for all that follow.
-fn first_step<'a>(
+// The words from a place on are put into slots. The lent table is tested and its dead state found once for all of them.
+fn cut_into<'a, S: Slot>(
     count: usize,
     labels: &'a [u8],
     targets: &'a [u8],
     text: &'a [u8],
     at: usize,
-    room: usize,
-) -> Step
-    ensures { result ≡ first_step_of count labels.now targets.now text.now at room }
+    slots: &mut [S],
+) -> Result<Ended, Refusal>
+    ensures { CutsSlots S.room S.put count labels.now targets.now text.now at slots.old slots.new result }
 {
-    if table::well_formed(count, labels, targets) {
-        let dead = dead_state(count, labels, targets);
-        let place = Place { at: at, dead: dead };
-        return next_step(count, labels, targets, text, place, 0, room);
+    if !table::well_formed(count, labels, targets) {
+        return Err(Refusal::Loaded);
     }
-    let place = Place {
-        at: at,
-        dead: count,
-    };
-    halt(place, Ended::Refused(Refusal::Loaded))
+    let dead = dead_state(count, labels, targets);
+    let room = S::room(slots);
+    let mut at = at;
+    let mut k: usize = 0;
+    while at < text.len() {
+        let Some((len, rule)) = next_word(count, labels, targets, text, at, dead) else {
+            return Ok(Ended::Stuck(k, at));
+        };
+        if room <= k {
+            return Ok(Ended::Full(k, at));
+        }
+        S::put(
+            slots,
+            k,
+            Word {
+                start: at,
+                len: len,
+                rule: rule,
+            },
+        );
+        k += 1;
+        at += len;
+    }
+    Ok(Ended::Done(k))
 }
 
 // The words from a place on go into cells, three for each.
@@ -265,31 +257,10 @@ pub fn cut_from<'a>(
     text: &'a [u8],
     at: usize,
     records: &mut [usize],
-) -> Ended
+) -> Result<Ended, Refusal>
     ensures { CutsInto count labels.now targets.now text.now at records.old records.new result }
 {
-    let room = records.len() / RECORD_CELLS;
-    let mut k: usize = 0;
-    let mut step = first_step(count, labels, targets, text, at, room);
-    while step.go {
-        let word = step.word;
-        let cell = RECORD_CELLS * k;
-        records[cell] = word.start;
-        records[cell + 1] = word.len;
-        records[cell + 2] = word.rule;
-        k += 1;
-        let next = step.next;
-        step = next_step(count, labels, targets, text, next, k, room);
-    }
-    step.end
-}
-
-// A word into a list at a place.
-fn put_word(words: &mut [Word], at: usize, w: Word)
-    requires { at < length words.old }
-    ensures { words.new ≡ set words.old at w }
-{
-    words[at] = w;
+    cut_into(count, labels, targets, text, at, records)
 }
 
 // The words of the text go into the list.
@@ -299,18 +270,8 @@ pub fn cut<'a>(
     targets: &'a [u8],
     text: &'a [u8],
     words: &mut [Word],
-) -> Ended
+) -> Result<Ended, Refusal>
     ensures { CutsWords count labels.now targets.now text.now words.old words.new result }
 {
-    let room = words.len();
-    let mut k: usize = 0;
-    let mut step = first_step(count, labels, targets, text, 0, room);
-    while step.go {
-        let word = step.word;
-        put_word(words, k, word);
-        k += 1;
-        let next = step.next;
-        step = next_step(count, labels, targets, text, next, k, room);
-    }
-    step.end
+    cut_into(count, labels, targets, text, 0, words)
 }

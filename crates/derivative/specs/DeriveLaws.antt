@@ -1,6 +1,6 @@
 -- Laws for derive and with_rest, one for each of their calls and returns, over what the node told and what the callees answered.
 -- Pure laws come first: the limited derivative by its parts, and the cells that a Cat uses.
-use Rattle.std.specs.Prelude.{ℕ, ◌+◌, ◌-◌, ◌*◌, ◌<◌, ◌≤◌, ◌≡◌, refl, Bool, true, false, cond, ◌&&◌, ◌||◌, List, leb, eqb, length}
+use Rattle.std.specs.Prelude.{ℕ, ◌+◌, ◌-◌, ◌*◌, ◌<◌, ◌≤◌, ◌≡◌, refl, Bool, true, false, cond, ◌&&◌, ◌||◌, List, Option, None, Some, leb, eqb, length}
 use Rattle.std.proofs.Common.{arith, sym, ap, ◌∙◌, eq-eqb, ne_eqb}
 use Rattle.number.specs.Branch.{by_cond}
 use Rattle.meaning.specs.declared.Join.{Join}
@@ -18,13 +18,12 @@ use Rattle.meaning.specs.Tests.{clash}
 use Rattle.meaning.specs.SizeLaws.{short_members, part_short}
 use Rattle.term.specs.declared.Term.{Term}
 use Rattle.term.specs.declared.Term.TheVariants.{Nothing, Empty, Range, Cat, Alt, Star, And, Not}
+use Rattle.term.specs.declared.Built.{Built}
 use Rattle.term.specs.Cells.{grow, term, Below, Sound}
 use Rattle.term.specs.Area.{pending, GrownFree, Room, Makes}
 use Rattle.term.specs.Nodes.{kind_of, first_of, second_of, arity_of, Found, OnePart, TwoParts}
 use Rattle.term.specs.CellLaws.{sound_less, grown_refl, grown_trans, grown_term, makes_old, makes_free, makes_after}
 use Rattle.term.specs.ReadLaws.{one_part, two_parts, one_size, two_size}
-use Rattle.normal.specs.declared.Made.{Made}
-use Rattle.normal.specs.declared.Made.TheVariants.{Term as Made·term, Long as Made·long}
 use Rattle.normal.specs.Made.{MadeBy}
 use Rattle.normal.specs.Asked.{members, most_members, cat_cells, CountedLinks}
 use Rattle.normal.specs.Builds.{CatFits, NegatedFits}
@@ -124,15 +123,15 @@ module _ (kind : ℕ) (v y : Re) where
 
 -- what with_rest answers: the derivative alone, or turned, or with the rest behind it
 module _ {s : List ℕ} {top da b : ℕ} (l : CountedLinks s top da b) (kind : ℕ) {p : Bool} (q : p ≡ sided kind) where
-  pub rest_none : p ≡ true → Rested s top kind da b s (Made·term da top)
+  pub rest_none : p ≡ true → Rested s top kind da b s (Some (record { root = da; top = top }))
   rest_none e =
-      made_term (rest_fit kind (term s da) (term s b)) (rest_cells kind (term s da) (term s b))
+      made_term _ (rest_fit kind (term s da) (term s b)) (rest_cells kind (term s da) (term s b))
       (makes_old da 0 (term s da) l.links.sound l.links.left refl) (rw (sym q ∙ e)) (omega arith)
 
-  pub rest_turned : p ≡ false → kind ≡ 7 → {s' : List ℕ} {r : Made} → NegatedFits s top da s' r → Rested s top kind da b s' r
+  pub rest_turned : p ≡ false → kind ≡ 7 → {s' : List ℕ} {r : Option Built} → NegatedFits s top da s' r → Rested s top kind da b s' r
   rest_turned e k m = rw (sym q ∙ e, eq-eqb kind 7 k) m
 
-  pub rest_behind : p ≡ false → (kind ≡ 7 → ⊥) → {s' : List ℕ} {r : Made} → CatFits s top da b s' r → Rested s top kind da b s' r
+  pub rest_behind : p ≡ false → (kind ≡ 7 → ⊥) → {s' : List ℕ} {r : Option Built} → CatFits s top da b s' r → Rested s top kind da b s' r
   rest_behind e n m = rw (sym q ∙ e, ne_eqb kind 7 n) m
 
 pub turned_asks : {s : List ℕ} {top da b : ℕ} → CountedLinks s top da b → Sound s top × ((da < top) × Room s top (1 + pending))
@@ -370,10 +369,10 @@ module _ {s : List ℕ} {top i : ℕ} (d : Derives s top i) where
       pub leaf_asks : Sound s top × ((top < length s) × Below w top)
       leaf_asks = (d.sound, (omega (arith, d.room, room_cells (term s i), cells_some (term s i)), leaf_below top c u w e))
 
-      pub leaf_up : {s' : List ℕ} {root top' : ℕ} → Makes s top s' root top' (grow w (term s)) 1
-          → MadeBy s top s' (Made·term root top') (deriv_fit c (term s i)) (deriv_cells (term s i))
-      leaf_up m =
-          made_term (deriv_fit c (term s i)) (deriv_cells (term s i)) (makes_free pending m)
+      pub leaf_up : {s' : List ℕ} {made : Built} → Makes s top s' made.root made.top (grow w (term s)) 1
+          → MadeBy s top s' (Some made) (deriv_fit c (term s i)) (deriv_cells (term s i))
+      leaf_up {s'} {made} m =
+          made_term made (deriv_fit c (term s i)) (deriv_cells (term s i)) (makes_free pending m)
           (sym (leaf_fits s c u w k e ∙ sym (ap (deriv_fit c) f.is))) (omega (arith, cells_some (term s i)))
 
   -- a term with parts
@@ -388,8 +387,8 @@ module _ {s : List ℕ} {top i : ℕ} (d : Derives s top i) where
     first_asks =
         later 0 a (grown_refl d.sound) (omega arith) p.first p.first_shape (omega (arith, p.larger)) (omega (arith, fewer))
 
-    pub first_long : {s₁ : List ℕ} {r : Made} → MadeBy s top s₁ r (deriv_fit c (term s a)) (deriv_cells (term s a)) → r ≡ Made·long
-        → MadeBy s top s₁ Made·long (deriv_fit c (term s i)) (deriv_cells (term s i))
+    pub first_long : {s₁ : List ℕ} {r : Option Built} → MadeBy s top s₁ r (deriv_fit c (term s a)) (deriv_cells (term s a)) → r ≡ None
+        → MadeBy s top s₁ None (deriv_fit c (term s i)) (deriv_cells (term s i))
     first_long m x =
         long_after 0 (deriv_cells (term s i)) (deriv_fit c (term s i)) (grown_refl d.sound) (omega arith) m x
         (p.is c ∙ long_1 c kind (term s a) (term s b) (long_is m x)) (omega (arith, fewer))
@@ -417,8 +416,8 @@ module _ {s : List ℕ} {top i : ℕ} (d : Derives s top i) where
       left_few : rest_cells kind g.value (term s b) ≤ most_members
       left_few = rest_few kind g.value (term s b) da_short
 
-      pub rest_long : {s₂ : List ℕ} {r : Made} → Rested s₁ first kind da b s₂ r → r ≡ Made·long
-          → MadeBy s top s₂ Made·long (deriv_fit c (term s i)) (deriv_cells (term s i))
+      pub rest_long : {s₂ : List ℕ} {r : Option Built} → Rested s₁ first kind da b s₂ r → r ≡ None
+          → MadeBy s top s₂ None (deriv_fit c (term s i)) (deriv_cells (term s i))
       rest_long m e =
           long_after (deriv_cells (term s a)) (deriv_cells (term s i)) (deriv_fit c (term s i)) g.makes.grown g.makes.few m e
           (p.is c ∙ long_2 c kind (term s a) (term s b) g.value g.fits (sym left_same ∙ long_is m e))
@@ -449,9 +448,9 @@ module _ {s : List ℕ} {top i : ℕ} (d : Derives s top i) where
         both_told e t = sym (ap (both_sides kind) (grown_term a grown_2 d.sound (omega (arith, p.first, d.held)))) ∙ sym e ∙ t
 
         pub left_alone : both_sides kind (term s a) ≡ false
-            → MadeBy s top s₂ (Made·term left second) (deriv_fit c (term s i)) (deriv_cells (term s i))
+            → MadeBy s top s₂ (Some (record { root = left; top = second })) (deriv_fit c (term s i)) (deriv_cells (term s i))
         left_alone n =
-            made_term (deriv_fit c (term s i)) (deriv_cells (term s i)) (makes_after (deriv_cells (term s a)) g.makes.grown g.makes.few h.makes)
+            made_term _ (deriv_fit c (term s i)) (deriv_cells (term s i)) (makes_after (deriv_cells (term s a)) g.makes.grown g.makes.few h.makes)
             (p.is c ∙ fits_left c kind (term s a) (term s b) g.value g.fits h.value left_fits n)
             (omega (arith, left_cells, left_few, fewer))
 
@@ -468,8 +467,8 @@ module _ {s : List ℕ} {top i : ℕ} (d : Derives s top i) where
           rest_stays_2 : term s₂ b ≡ term s b
           rest_stays_2 = grown_term b grown_2 d.sound rest_held
 
-          pub second_long : {s₃ : List ℕ} {r : Made} → MadeBy s₂ second s₃ r (deriv_fit c (term s₂ b)) (deriv_cells (term s₂ b)) → r ≡ Made·long
-              → MadeBy s top s₃ Made·long (deriv_fit c (term s i)) (deriv_cells (term s i))
+          pub second_long : {s₃ : List ℕ} {r : Option Built} → MadeBy s₂ second s₃ r (deriv_fit c (term s₂ b)) (deriv_cells (term s₂ b)) → r ≡ None
+              → MadeBy s top s₃ None (deriv_fit c (term s i)) (deriv_cells (term s i))
           second_long m e =
               let used = deriv_cells (term s a) + rest_cells kind g.value (term s b) in
               long_after used (deriv_cells (term s i)) (deriv_fit c (term s i)) grown_2 few_2 m e
@@ -505,7 +504,7 @@ module _ {s : List ℕ} {top i : ℕ} (d : Derives s top i) where
             last_same : fit (formed (join_of kind) (term s₃ left) (term s₃ db)) ≡ fit (formed (join_of kind) h.value k.value)
             last_same = cc (left_stays, k.makes.is)
 
-            pub merge_up : {j : Join} → j ≡ join_of kind → {s₄ : List ℕ} {r : Made} → MergedFits j s₃ third left db s₄ r
+            pub merge_up : {j : Join} → j ≡ join_of kind → {s₄ : List ℕ} {r : Option Built} → MergedFits j s₃ third left db s₄ r
                 → MadeBy s top s₄ r (deriv_fit c (term s i)) (deriv_cells (term s i))
             merge_up e m =
                 let used = deriv_cells (term s a) + rest_cells kind g.value (term s b) + deriv_cells (term s b) in

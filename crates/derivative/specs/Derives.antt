@@ -1,6 +1,6 @@
 -- What derive asks of the work area and of its term, how many cells it may use, and what it leaves: its contract is stated with these.
 -- A derivative uses at most one cell more than most_members a node of its term, and above these what counting uses.
-use Rattle.std.specs.Prelude.{ℕ, ◌+◌, ◌-◌, ◌*◌, ◌<◌, ◌≡◌, Bool, true, cond, ◌&&◌, ◌||◌, List, leb, eqb}
+use Rattle.std.specs.Prelude.{ℕ, ◌+◌, ◌-◌, ◌*◌, ◌<◌, ◌≡◌, Bool, true, cond, ◌&&◌, ◌||◌, List, Option, leb, eqb}
 use Rattle.meaning.specs.declared.Join.{Join}
 use Rattle.meaning.specs.declared.Join.TheVariants.{Or, Both}
 use Rattle.meaning.specs.Re.{Re, size}
@@ -11,10 +11,10 @@ use Rattle.meaning.specs.Limited.Fit.{Fits}
 use Rattle.meaning.specs.Shape.{InShape}
 use Rattle.term.specs.declared.Term.{Term}
 use Rattle.term.specs.declared.Term.TheVariants.{Nothing, Empty, Range, Cat, Alt, And, Not}
+use Rattle.term.specs.declared.Built.{Built}
 use Rattle.term.specs.Cells.{term, Sound}
 use Rattle.term.specs.Area.{pending, Room}
 use Rattle.term.specs.Nodes.{kind_of, first_of, second_of, arity_of}
-use Rattle.normal.specs.declared.Made.{Made}
 use Rattle.normal.specs.Made.{MadeBy}
 use Rattle.normal.specs.Asked.{most_members, cat_cells}
 
@@ -61,8 +61,8 @@ abbrev pub join_of : ℕ → Join
 join_of kind = cond (eqb kind (kind_of (And 0 0))) Both Or
 
 -- what with_rest leaves, and what derive does
-abbrev pub Rested : List ℕ → ℕ → ℕ → ℕ → ℕ → List ℕ → Made → Type 0
+abbrev pub Rested : List ℕ → ℕ → ℕ → ℕ → ℕ → List ℕ → Option Built → Type 0
 Rested s top kind da rest s' r = MadeBy s top s' r (rest_fit kind (term s da) (term s rest)) (rest_cells kind (term s da) (term s rest))
 
-abbrev pub Derived : List ℕ → ℕ → ℕ → ℕ → List ℕ → Made → Type 0
+abbrev pub Derived : List ℕ → ℕ → ℕ → ℕ → List ℕ → Option Built → Type 0
 Derived s top i byte s' r = MadeBy s top s' r (deriv_fit byte (term s i)) (deriv_cells (term s i))

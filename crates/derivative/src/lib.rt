@@ -1,5 +1,5 @@
 // The derivative of a term by a byte, in the work area and in normal form; and the next byte at which a derivative can change.
-// Each result on the way is counted, and one of more than 255 nodes is Long.
+// Each result on the way is counted, and where one has more than 255 nodes the answer is None.
 #![tactic(auto)]
 
 ghost use Rattle.std.specs.Prelude.{true, ◌≡◌, ◌+◌, ◌≤◌, min};
@@ -14,7 +14,7 @@ ghost use Rattle.derivative.specs.Waiting.{leaf_edge};
 
 use meaning::Join;
 use merged::merge_short;
-use normal::{Made, cat_fit, negated_fit, store};
+use normal::{Built, cat_fit, negated_fit, store};
 use number::limits::BYTES;
 use term::{
     ALT, AND, CAT, NOT, RANGE, Term, WAITING, arity, first_of, kind_of, node_at, nullable,
@@ -55,12 +55,12 @@ fn sided(kind: usize) -> bool
 }
 
 // What the first part's derivative becomes: in a Not it is turned, else the rest stands behind it.
-fn with_rest(cells: &mut [u64], top: usize, kind: usize, da: usize, rest: usize) -> Made
+fn with_rest(cells: &mut [u64], top: usize, kind: usize, da: usize, rest: usize) -> Option<Built>
     requires { CountedLinks cells.old top da rest }
     ensures { Rested cells.old top kind da rest cells.new result }
 {
     if sided(kind) {
-        return Made::Term(da, top);
+        return Some(Built { root: da, top });
     }
     if kind == NOT {
         return negated_fit(cells, top, da);
@@ -90,33 +90,26 @@ fn join_of(kind: usize) -> Join
 }
 
 // The derivative of a term by a byte. That of the second side is worked out only where it is joined.
-// It calls itself, so its frame is there once for each level of the term, and each call that answers a Made keeps a place of its own
+// It calls itself, so its frame is there once for each level of the term, and each call that answers a term keeps a place of its own
 // in the frame. So all kinds share the same few calls.
-pub fn derive(cells: &mut [u64], top: usize, i: usize, byte: usize) -> Made
+pub fn derive(cells: &mut [u64], top: usize, i: usize, byte: usize) -> Option<Built>
     requires { Derives cells.old top i }
     ensures { Derived cells.old top i byte cells.new result }
 {
     let node = node_at(cells, i);
     if arity(node) == 0 {
-        let made = store(cells, top, leaf_left(node, byte));
-        return Made::Term(made.root, made.top);
+        return Some(store(cells, top, leaf_left(node, byte)));
     }
     let kind = kind_of(node);
     let a = first_of(node);
     let rest = rest_of(node, i);
-    let Made::Term(da, first) = derive(cells, top, a, byte) else {
-        return Made::Long;
-    };
-    let Made::Term(left, second) = with_rest(cells, first, kind, da, rest) else {
-        return Made::Long;
-    };
+    let da = derive(cells, top, a, byte)?;
+    let left = with_rest(cells, da.top, kind, da.root, rest)?;
     if both_sides(cells, kind, a) {
-        let Made::Term(db, third) = derive(cells, second, rest, byte) else {
-            return Made::Long;
-        };
-        return merge_short(cells, third, left, db, join_of(kind));
+        let db = derive(cells, left.top, rest, byte)?;
+        return merge_short(cells, db.top, left.root, db.root, join_of(kind));
     }
-    Made::Term(left, second)
+    Some(left)
 }
 
 fn smaller(m: usize, n: usize) -> usize

@@ -1,14 +1,13 @@
 -- What the merge of two terms leaves in the work area: the contracts' second half.
 -- A term in normal form is made of terms in normal form; nothing below the old top changes.
-use Rattle.std.specs.Prelude.{ℕ, ◌-◌, List}
+use Rattle.std.specs.Prelude.{ℕ, ◌-◌, List, Option}
 use Rattle.meaning.specs.declared.Join.{Join}
 use Rattle.meaning.specs.Normal.{formed}
 use Rattle.meaning.specs.Limited.{fit}
 use Rattle.meaning.specs.Shape.{united}
 use Rattle.term.specs.Cells.{term}
 use Rattle.term.specs.Area.{Makes}
-use Rattle.normal.specs.declared.Built.{Built}
-use Rattle.normal.specs.declared.Made.{Made}
+use Rattle.term.specs.declared.Built.{Built}
 use Rattle.normal.specs.Made.{MadeBy}
 use Rattle.normal.specs.Asked.{members}
 use Rattle.merged.specs.Asked.{merge_cells}
@@ -23,5 +22,5 @@ abbrev pub Merged : Join → List ℕ → ℕ → ℕ → ℕ → List ℕ → B
 Merged k s top a b s' r = Makes s top s' r.root r.top (formed k (term s a) (term s b)) (merge_cells k (term s a) (term s b))
 
 -- the same, with the limit
-abbrev pub MergedFits : Join → List ℕ → ℕ → ℕ → ℕ → List ℕ → Made → Type 0
+abbrev pub MergedFits : Join → List ℕ → ℕ → ℕ → ℕ → List ℕ → Option Built → Type 0
 MergedFits k s top a b s' r = MadeBy s top s' r (fit (formed k (term s a) (term s b))) (merge_cells k (term s a) (term s b))

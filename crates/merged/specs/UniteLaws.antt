@@ -13,7 +13,7 @@ use Rattle.term.specs.Cells.{term}
 use Rattle.term.specs.Area.{Makes}
 use Rattle.term.specs.Counts.{Countable}
 use Rattle.term.specs.CellLaws.{Same, frame, sound_same, sound_less, makes_old, makes_more, makes_as}
-use Rattle.normal.specs.declared.Built.{Built}
+use Rattle.term.specs.declared.Built.{Built}
 use Rattle.normal.specs.Asked.{members}
 use Rattle.normal.specs.Nest.{Listing, Lists, Nests}
 use Rattle.normal.specs.NodeLaws.{members_some, members_rest}

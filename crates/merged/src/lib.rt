@@ -1,5 +1,5 @@
 // Two terms joined as a choice or both at once, in the work area: their members in order, each once, merged by going along both.
-// All is over the operator that joins the members. A result with the limit is counted, and one of more than 255 nodes is Long.
+// All is over the operator that joins the members. A result with the limit is counted, and for one of more than 255 nodes the answer is None.
 #![tactic(auto)]
 
 ghost use Rattle.std.specs.Prelude.{◌≡◌};
@@ -8,9 +8,11 @@ ghost use Rattle.merged.specs.Asked.{Sides, CountedSides, Meets, Unites};
 ghost use Rattle.merged.specs.Merge.{head_at, Goes};
 ghost use Rattle.merged.specs.Builds.{United, Merged, MergedFits};
 
+use std::cmp::Ordering;
+
 use meaning::Join;
-use normal::{Built, Made, joins, nest};
-use term::{Order, Term, compare_terms, first_of, is_nothing, node_at, second_of};
+use normal::{Built, joins, nest};
+use term::{Term, compare_terms, first_of, is_nothing, node_at, second_of};
 
 // How the merge of two terms' members goes on, by the first ones: it stands in a cell; it is a member and the rest, in two cells;
 // or it is a member, in the first cell, before the merge of two terms.
@@ -42,13 +44,13 @@ fn next_member(cells: &[u64], a: usize, b: usize, join: Join) -> Next
     let rival = head_of(y, b, join);
     let order = compare_terms(cells, head, rival);
     match order {
-        Order::Less => {
+        Ordering::Less => {
             if joins(x, join) {
                 return Next::More(head, second_of(x), b);
             }
             Next::Pair(a, b)
         }
-        Order::Equal => {
+        Ordering::Equal => {
             if joins(x, join) {
                 if joins(y, join) {
                     return Next::More(rival, second_of(x), second_of(y));
@@ -57,7 +59,7 @@ fn next_member(cells: &[u64], a: usize, b: usize, join: Join) -> Next
             }
             Next::Whole(b)
         }
-        Order::Greater => {
+        Ordering::Greater => {
             if joins(y, join) {
                 return Next::More(rival, a, second_of(y));
             }
@@ -128,17 +130,23 @@ pub fn merge(cells: &mut [u64], top: usize, a: usize, b: usize, join: Join) -> B
 }
 
 // The same with the limit, of two terms that fit: with Nothing on a side one of them is the answer, and needs no counting.
-pub fn merge_short(cells: &mut [u64], top: usize, a: usize, b: usize, join: Join) -> Made
+pub fn merge_short(cells: &mut [u64], top: usize, a: usize, b: usize, join: Join) -> Option<Built>
     requires { CountedSides join cells.old top a b }
     ensures { MergedFits join cells.old top a b cells.new result }
 {
     let x = node_at(cells, a);
     if is_nothing(x) {
-        return Made::Term(beside(join, a, b), top);
+        return Some(Built {
+            root: beside(join, a, b),
+            top,
+        });
     }
     let y = node_at(cells, b);
     if is_nothing(y) {
-        return Made::Term(beside(join, b, a), top);
+        return Some(Built {
+            root: beside(join, b, a),
+            top,
+        });
     }
     let made = merge(cells, top, a, b, join);
     normal::fit(cells, made)

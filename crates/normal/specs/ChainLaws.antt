@@ -20,7 +20,7 @@ use Rattle.term.specs.ReadLaws.{of_kind, found_kind}
 use Rattle.normal.specs.Asked.{members, plain, cat_cells, Links, CountedLinks}
 use Rattle.normal.specs.NodeLaws.{Joins, told_joins, told_single, members_some, members_rest}
 use Rattle.normal.specs.NestLaws.{listing_first, listing_next, listing_asks, listing_made}
-use Rattle.normal.specs.declared.Built.{Built}
+use Rattle.term.specs.declared.Built.{Built}
 use Rattle.normal.specs.Nest.{joins_node, Listing, Lists, Nests}
 use Rattle.normal.specs.Builds.{Chains, Cats}
 use Rattle.normal.specs.AnswerLaws.{made_counts}

@@ -6,11 +6,11 @@ use Rattle.meaning.specs.declared.Join.TheVariants.{Then, Or, Both}
 use Rattle.meaning.specs.Re.{Re}
 use Rattle.meaning.specs.Normal.{joined}
 use Rattle.term.specs.declared.Term.{Term}
+use Rattle.term.specs.declared.Built.{Built}
 use Rattle.term.specs.declared.Term.TheVariants.{Cat, Alt, And}
 use Rattle.term.specs.Cells.{term, Sound}
 use Rattle.term.specs.Nodes.{kind_of}
 use Rattle.term.specs.Area.{Wasted, Makes}
-use Rattle.normal.specs.declared.Built.{Built}
 
 -- the node that joins a member to the rest, and whether a node is one
 abbrev pub join_node : Join → ℕ → ℕ → Term

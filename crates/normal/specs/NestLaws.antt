@@ -12,7 +12,7 @@ use Rattle.term.specs.Cells.{grow, term, Below, Sound}
 use Rattle.term.specs.Area.{Makes}
 use Rattle.term.specs.Nodes.{Pushed}
 use Rattle.term.specs.CellLaws.{frame, sound_same}
-use Rattle.normal.specs.declared.Built.{Built}
+use Rattle.term.specs.declared.Built.{Built}
 use Rattle.normal.specs.Nest.{join_node, nested, Listing, Lists, Turned, Turning, Nests, Nesting}
 
 -- ---- joining

@@ -1,5 +1,5 @@
 // Terms built in the work area, always in normal form: leaves, cat, star and negated on terms in normal form. What has sorted members is the crate merged's.
-// A result with the limit is counted, and one of more than 255 nodes is Long.
+// A result with the limit is counted, and for one of more than 255 nodes the answer is None.
 #![tactic(auto)]
 
 ghost use Rattle.std.specs.Prelude.{◌≡◌, ◌+◌, ◌<◌, ◌≤◌, length};
@@ -10,22 +10,10 @@ ghost use Rattle.normal.specs.Asked.{Links, CountedLinks};
 ghost use Rattle.normal.specs.Builds.{Stores, Chains, Cats, Stars, Negates, Fitted, CatFits, NegatedFits};
 ghost use Rattle.normal.specs.Nest.{join_node, joins_node, Turned, Lists, Nests};
 
+pub use term::Built;
+
 use meaning::Join;
 use term::{ALT, AND, CAT, NOT, STAR, Term};
-
-// The cell of a term that was built, with the next free cell.
-#[derive(Clone, Copy)]
-pub struct Built {
-    pub root: usize,
-    pub top: usize,
-}
-
-// The same with a limit: or that a result on the way was too long.
-#[derive(Clone, Copy)]
-pub enum Made {
-    Term(usize, usize),
-    Long,
-}
 
 // Stores one node.
 pub fn store(cells: &mut [u64], top: usize, node: Term) -> Built
@@ -177,20 +165,20 @@ pub fn negated(cells: &mut [u64], top: usize, a: usize) -> Built
     store(cells, top, Term::Not(a))
 }
 
-// What was built, with the limit: a result of too many nodes is Long.
-pub fn fit(cells: &mut [u64], made: Built) -> Made
+// What was built, with the limit: None for a result of too many nodes.
+pub fn fit(cells: &mut [u64], made: Built) -> Option<Built>
     requires { Countable cells.old made.top made.root }
     ensures { Fitted cells.old made cells.new result }
 {
     if term::is_short(cells, made.top, made.root) {
-        Made::Term(made.root, made.top)
+        Some(made)
     } else {
-        Made::Long
+        None
     }
 }
 
 // cat with the limit.
-pub fn cat_fit(cells: &mut [u64], top: usize, a: usize, b: usize) -> Made
+pub fn cat_fit(cells: &mut [u64], top: usize, a: usize, b: usize) -> Option<Built>
     requires { CountedLinks cells.old top a b }
     ensures { CatFits cells.old top a b cells.new result }
 {
@@ -199,7 +187,7 @@ pub fn cat_fit(cells: &mut [u64], top: usize, a: usize, b: usize) -> Made
 }
 
 // negated with the limit.
-pub fn negated_fit(cells: &mut [u64], top: usize, a: usize) -> Made
+pub fn negated_fit(cells: &mut [u64], top: usize, a: usize) -> Option<Built>
     requires sound { Sound cells.old top }
     requires a_lt_top { a < top }
     requires room { Room cells.old top (1 + pending) }

@@ -13,7 +13,7 @@ use Rattle.number.specs.Refused.Answer.{got, refused}
 use Rattle.number.specs.Refused.Outcome.{gives, refuses}
 use Rattle.number.specs.Refused.Row.{no_row, row}
 use Rattle.number.specs.Rows.{refusals_at, refusal_of}
-use Rattle.number.specs.declared.Taken.TheVariants.{Value, Refused}
+use Rattle.std.proofs.Common.{Ok, Err}
 use Rattle.number.specs.Numbers.{Bytes, taken, due, several, read_number, groups_of, groups_read, within, field, write_number, NumberAt, FieldAt}
 use Rattle.number.specs.Faults.{NumberFault, RunsOn, PaddedTo, FieldFault}
 use Rattle.number.specs.Reading.{Reader, ◌>>=◌, ◌>>◌, end}
@@ -152,7 +152,7 @@ pub the_refused_field : (s : List ℕ) (lo hi at : ℕ) (r : Refusal) → Bytes 
 the_refused_field s lo hi at r all = (refused_field s lo hi at r all, field_fault s lo hi at r)
 
 -- what the code answers is this: a value and the place after it as they are, a refusal as it is
-pub the_answers : ((value next : ℕ) → taken (Value value next) ≡ got value next) × ((r : Refusal) → taken (Refused r) ≡ refused r)
+pub the_answers : ((value next : ℕ) → taken (Ok (value, next)) ≡ got value next) × ((r : Refusal) → taken (Err r) ≡ refused r)
 the_answers = (λ value next. refl, λ r. refl)
 
 -- ---- files

@@ -1,9 +1,8 @@
 -- Numbers in files: groups of seven bits, least first, one byte a group, the high bit on every group but the last.
 -- At most three groups, and the shortest form only: the last of two or three groups is not 0.
-use Rattle.std.specs.Prelude.{ℕ, suc, ◌+◌, ◌*◌, ◌/◌, ◌%◌, ◌<◌, ◌≤◌, ◌≡◌, cond, List, [], ◌∷◌, ◌++◌, ltb, eqb, length, get_or, take, drop}
+use Rattle.std.specs.Prelude.{ℕ, suc, ◌+◌, ◌*◌, ◌/◌, ◌%◌, ◌<◌, ◌≤◌, ◌≡◌, Result, Ok, Err, cond, List, [], ◌∷◌, ◌++◌, ltb, eqb, length, get_or, take, drop}
+use Rattle.number.specs.declared.Refusal.{Refusal}
 use Rattle.number.specs.declared.Refusal.TheVariants.{Short, Number, Range, Padded}
-use Rattle.number.specs.declared.Taken.{Taken}
-use Rattle.number.specs.declared.Taken.TheVariants.{Value, Refused}
 use Rattle.number.specs.Limits.{group, two_groups, three_groups, bytes}
 use Rattle.number.specs.Refused.{Answer}
 use Rattle.number.specs.Refused.Answer.{got, refused}
@@ -13,9 +12,9 @@ abbrev pub Bytes : List ℕ → Type 0
 Bytes s = (i : ℕ) → i < length s → get_or s i 0 < bytes
 
 -- the code's answer as the paper has it
-abbrev pub taken : Taken → Answer ℕ
-taken (Value value next) = got value next
-taken (Refused r) = refused r
+abbrev pub taken : Result (ℕ × ℕ) Refusal → Answer ℕ
+taken (Ok (value, next)) = got value next
+taken (Err r) = refused r
 
 -- a byte of a number that starts at `at` is due at `here`: go on with it, or the input is short
 unfoldable pub due : List ℕ → ℕ → ℕ → (ℕ → Answer ℕ) → Answer ℕ

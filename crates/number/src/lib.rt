@@ -15,7 +15,7 @@ pub mod limits;
 use limits::{GROUP, TWO_GROUPS};
 
 // Why an input is refused, and where. The paper gives Loaded, Room and Input no place of their own.
-#[derive(Clone, Copy)]
+#[derive(Clone, Copy, PartialEq, Eq)]
 pub enum Refusal {
     Short(usize),
     Number(usize),
@@ -34,17 +34,10 @@ pub enum Refusal {
     Padded(usize),
 }
 
-// The answer of a reader: a value and the place after it, or the refusal.
-#[derive(Clone, Copy)]
-pub enum Taken {
-    Value(usize, usize),
-    Refused(Refusal),
-}
-
 // The answer of the number reader: the value and the place after it, or the refusal; and how many groups it read, be they refused or not.
 #[derive(Clone, Copy)]
 pub struct Grouped {
-    pub taken: Taken,
+    pub taken: Result<(usize, usize), Refusal>,
     pub groups: usize,
 }
 
@@ -76,38 +69,30 @@ pub fn refusal_place(r: Refusal) -> usize
     ensures { result ≡ place r }
 {
     match r {
-        Refusal::Short(at) => at,
-        Refusal::Number(at) => at,
-        Refusal::Range(at) => at,
-        Refusal::Stack(at) => at,
-        Refusal::Tail(at) => at,
-        Refusal::Long(at) => at,
-        Refusal::Pool(at) => at,
-        Refusal::States(at) => at,
-        Refusal::Runs(at) => at,
-        Refusal::Loaded => 0,
-        Refusal::Room => 0,
-        Refusal::Pairs(at) => at,
-        Refusal::Input => 0,
-        Refusal::Typed(at) => at,
-        Refusal::Padded(at) => at,
+        Refusal::Short(at)
+        | Refusal::Number(at)
+        | Refusal::Range(at)
+        | Refusal::Stack(at)
+        | Refusal::Tail(at)
+        | Refusal::Long(at)
+        | Refusal::Pool(at)
+        | Refusal::States(at)
+        | Refusal::Runs(at)
+        | Refusal::Pairs(at)
+        | Refusal::Typed(at)
+        | Refusal::Padded(at) => at,
+        Refusal::Loaded | Refusal::Room | Refusal::Input => 0,
     }
 }
 
-fn wide(b: u8) -> usize
-    ensures { result ≡ b }
-{
-    b as usize
-}
-
 // The last of several groups is not 0: only the shortest form is read.
-fn shortest(at: usize, last: usize, value: usize, next: usize) -> Taken
+fn shortest(at: usize, last: usize, value: usize, next: usize) -> Result<(usize, usize), Refusal>
     ensures { taken result ≡ several at last (got value next) }
 {
     if last == 0 {
-        Taken::Refused(Refusal::Padded(at))
+        Err(Refusal::Padded(at))
     } else {
-        Taken::Value(value, next)
+        Ok((value, next))
     }
 }
 
@@ -115,16 +100,16 @@ fn shortest(at: usize, last: usize, value: usize, next: usize) -> Taken
 pub fn read_number(bytes: &[u8], at: usize) -> Grouped
     ensures { ReadsNumber bytes.now at result }
 {
-    let short = Taken::Refused(Refusal::Short(at));
+    let short = Err(Refusal::Short(at));
     if bytes.len() <= at {
         return Grouped {
             taken: short,
             groups: 0,
         };
     }
-    let a = wide(bytes[at]);
+    let a = bytes[at] as usize;
     if a < GROUP {
-        let taken = Taken::Value(a, at + 1);
+        let taken = Ok((a, at + 1));
         return Grouped { taken, groups: 1 };
     }
     if bytes.len() - at <= 1 {
@@ -133,7 +118,7 @@ pub fn read_number(bytes: &[u8], at: usize) -> Grouped
             groups: 1,
         };
     }
-    let b = wide(bytes[at + 1]);
+    let b = bytes[at + 1] as usize;
     if b < GROUP {
         let taken = shortest(at, b, a % GROUP + GROUP * b, at + 2);
         return Grouped { taken, groups: 2 };
@@ -144,32 +129,29 @@ pub fn read_number(bytes: &[u8], at: usize) -> Grouped
             groups: 2,
         };
     }
-    let c = wide(bytes[at + 2]);
+    let c = bytes[at + 2] as usize;
     if c < GROUP {
         let value = a % GROUP + GROUP * (b % GROUP) + TWO_GROUPS * c;
         let taken = shortest(at, c, value, at + 3);
         return Grouped { taken, groups: 3 };
     }
-    let taken = Taken::Refused(Refusal::Number(at));
+    let taken = Err(Refusal::Number(at));
     Grouped { taken, groups: 3 }
 }
 
-// The number at a place, if it lies within its field.
-pub fn read_field(bytes: &[u8], at: usize, lo: usize, hi: usize) -> Taken
+// The number at a place and the place after it, if it lies within its field.
+pub fn read_field(bytes: &[u8], at: usize, lo: usize, hi: usize) -> Result<(usize, usize), Refusal>
     ensures { ReadsField bytes.now lo hi at result }
 {
     let read = read_number(bytes, at);
     let got = read.taken;
-    let Taken::Value(value, next) = got else {
+    let Ok((value, next)) = got else {
         return got;
     };
-    if value < lo {
-        return Taken::Refused(Refusal::Range(at));
+    if value < lo || hi < value {
+        return Err(Refusal::Range(at));
     }
-    if hi < value {
-        return Taken::Refused(Refusal::Range(at));
-    }
-    got
+    Ok((value, next))
 }
 
 // How many bytes a number takes in a file.

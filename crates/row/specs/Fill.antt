@@ -1,13 +1,13 @@
 -- What the code that fills a row of the targets asks and leaves.
 -- A row that is refused on the way leaves its refusal; what it has written by then is not told.
-use Rattle.std.specs.Prelude.{ℕ, ◌+◌, ◌*◌, ◌≤◌, ◌≡◌, List, length}
+use Rattle.std.specs.Prelude.{ℕ, ◌+◌, ◌*◌, ◌≤◌, ◌≡◌, List, length, Result, Ok, Err}
+use Rattle.number.specs.declared.Refusal.{Refusal}
 use Rattle.number.specs.Limits.{bytes, states, table_cells, pool}
 use Rattle.number.specs.Lists.{written}
 use Rattle.walk.specs.Walk.{Walked, row}
 use Rattle.walk.specs.Walk.Walked.{halted, walked}
 use Rattle.vector.specs.Memory.{held_of, Kept}
-use Rattle.steps.specs.declared.Stepped.{Stepped}
-use Rattle.steps.specs.declared.Stepped.TheVariants.{Reached, Stopped}
+use Rattle.steps.specs.declared.Extent.{Extent}
 use Rattle.built.specs.Build.{alone}
 
 -- rows can be filled: what is held is in order, and the targets have room for every row
@@ -29,9 +29,9 @@ pub record Laid (s : List ℕ) (n before top count : ℕ) (w : Walked) (t : List
   pub up : before ≤ count
 
 -- the row of item i; what a refused one has left in the targets is not told
-abbrev pub RowComes : List ℕ → ℕ → ℕ → Walked → List ℕ → ℕ → List ℕ → Stepped → Type 0
-RowComes s n before w t i t' (Reached top count j) = Laid s n before top count w t (i * bytes) t' (i * bytes + bytes)
-RowComes s n before w t i t' (Stopped r) = w ≡ halted r
+abbrev pub RowComes : List ℕ → ℕ → ℕ → Walked → List ℕ → ℕ → List ℕ → Result Extent Refusal → Type 0
+RowComes s n before w t i t' (Ok held) = Laid s n before held.top held.count w t (i * bytes) t' (i * bytes + bytes)
+RowComes s n before w t i t' (Err r) = w ≡ halted r
 
-pub record RowFilled (s : List ℕ) (n top count i : ℕ) (t s' t' : List ℕ) (r : Stepped) : Type 0 where
+pub record RowFilled (s : List ℕ) (n top count i : ℕ) (t s' t' : List ℕ) (r : Result Extent Refusal) : Type 0 where
   pub comes : RowComes s' n count (row alone i bytes 0 (held_of s n top count)) t i t' r

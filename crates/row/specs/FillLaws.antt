@@ -1,7 +1,7 @@
 -- Laws for the loop that fills a row, run by run.
 -- What was reached so far stands in the targets, and in front of what remains it is the whole row.
-use Rattle.std.specs.Prelude.{ℕ, ◌+◌, ◌*◌, ◌-◌, ◌<◌, ◌≤◌, ◌≡◌, refl, List, [], ◌++◌, length, replicate}
-use Rattle.std.proofs.Common.{add-zero, arith, sym, ap, subst, ◌∙◌, append-nil, take-append-drop}
+use Rattle.std.specs.Prelude.{ℕ, ◌+◌, ◌*◌, ◌-◌, ◌<◌, ◌≤◌, ◌≡◌, refl, List, [], ◌++◌, length, replicate, Result, Ok, Err}
+use Rattle.std.proofs.Common.{add-zero, arith, sym, ap, ◌∙◌, append-nil, take-append-drop}
 use Rattle.number.specs.declared.Refusal.{Refusal}
 use Rattle.number.specs.declared.Refusal.TheVariants.{States}
 use Rattle.number.specs.Limits.{bytes, states, table_cells, pool}
@@ -14,8 +14,7 @@ use Rattle.vector.specs.Vectors.{vector_of}
 use Rattle.vector.specs.Memory.{numbers_at, held_of, Kept}
 use Rattle.vector.specs.Promises.{Within, ReadsShort}
 use Rattle.vector.specs.MemoryLaws.{items_length, items_at}
-use Rattle.steps.specs.declared.Stepped.{Stepped}
-use Rattle.steps.specs.declared.Stepped.TheVariants.{Reached, Stopped}
+use Rattle.steps.specs.declared.Reached.{Reached}
 use Rattle.steps.specs.Step.{way_of, Ready, Steps}
 use Rattle.steps.specs.RowLaws.{Along, along_first, along_end, along_stop, along_run}
 use Rattle.steps.specs.CallLaws.{went, halts, steps_way, kept_short}
@@ -59,8 +58,8 @@ filling_first {s} {n} {top} {count} {t} i f =
 
 module _ {before : ℕ} {w : Walked} {t₀ : List ℕ} {i : ℕ} {s : List ℕ} {n top count c : ℕ} {t : List ℕ}
     (f : Filling before w t₀ i s n top count c t) where
-  pub filling_end : (j : ℕ) → bytes ≤ c → RowComes s n before w t₀ i t (Reached top count j)
-  filling_end j h =
+  pub filling_end : bytes ≤ c → RowComes s n before w t₀ i t (Ok (record { top = top; count = count }))
+  filling_end h =
       record {
         numbers = f.numbers;
         walks = along_end alone i c (held_of s n top count) f.numbers w f.along h;
@@ -95,35 +94,34 @@ module _ {before : ℕ} {w : Walked} {t₀ : List ℕ} {i : ℕ} {s : List ℕ} 
           e ∙ ap (λ (u : List ℕ). next_edge_all c (vector_of s n u)) loaded
           ∙ ap (λ (x : Item). next_edge_all c x.vector) (sym (items_at s n count i (omega (arith, f.up))))
 
-      module _ {s₁ : List ℕ} {r : Stepped} (x : Steps s n count states s₁ (step (way_of 0 states i (States i)) i (held_of s n top count) c) r) where
+      module _ {s₁ : List ℕ} {r : Result Reached Refusal} (x : Steps s n count states s₁ (step (way_of 0 states i (States i)) i (held_of s n top count) c) r) where
         own : Steps s n count states s₁ (step alone i (held_of s n top count) c) r
         own = steps_way alone i 0 states i (States i) (held_of s n top count) c x refl refl refl refl refl
 
         -- a refusal ends the row
-        pub filling_stop : {q : Refusal} (t₁ : List ℕ) → r ≡ Stopped q → RowComes s₁ n before w t₀ i t₁ r
+        pub filling_stop : {q : Refusal} (t₁ : List ℕ) → r ≡ Err q → RowComes s₁ n before w t₀ i t₁ (Err q)
         filling_stop {q} t₁ z =
-            subst (RowComes s₁ n before w t₀ i t₁) (sym z)
-            (along_stop alone i c (held_of s n top count) f.numbers w q f.along more (halts own z))
+            along_stop alone i c (held_of s n top count) f.numbers w q f.along more (halts own z)
 
-        module _ {top₁ count₁ j : ℕ} (z : r ≡ Reached top₁ count₁ j) where
-          pub filling_small : j < states
+        module _ {y : Reached} (z : r ≡ Ok y) where
+          pub filling_small : y.number < states
           filling_small = omega (arith, (went own z).inside, (went own z).few)
 
           -- one run more
           pub filling_more : {t₁ : List ℕ} → table_cells ≤ length t₀
-              → t₁ ≡ written t (i * bytes + c) (replicate (i * bytes + edge - (i * bytes + c)) j)
-              → Filling before w t₀ i s₁ n top₁ count₁ edge t₁
-          filling_more {t₁} room y =
+              → t₁ ≡ written t (i * bytes + c) (replicate (i * bytes + edge - (i * bytes + c)) y.number)
+              → Filling before w t₀ i s₁ n y.held.top y.held.count edge t₁
+          filling_more {t₁} room e =
               let g = went own z in
               let width : i * bytes + edge - (i * bytes + c) ≡ edge - c = omega arith in
               record {
-                numbers = f.numbers ++ replicate (edge - c) j;
+                numbers = f.numbers ++ replicate (edge - c) y.number;
                 along =
-                    along_run alone i c edge (held_of s n top count) (held_of s₁ n top₁ count₁) j f.numbers w f.along
+                    along_run alone i c edge (held_of s n top count) (held_of s₁ n y.held.top y.held.count) y.number f.numbers w f.along
                     (omega (arith, f.up, items_length s n count)) g.goes edge_on (omega (arith, edge_is)) (λ d k l. refl);
                 laid =
-                    laid_on t₀ t t₁ f.numbers (replicate (edge - c) j) (i * bytes) (i * bytes + c) (omega (arith, f.up, f.few)) f.laid
-                    (omega (arith, f.along.passed)) (rw width at y);
+                    laid_on t₀ t t₁ f.numbers (replicate (edge - c) y.number) (i * bytes) (i * bytes + c) (omega (arith, f.up, f.few)) f.laid
+                    (omega (arith, f.along.passed)) (rw width at e);
                 kept = g.kept;
                 low = g.low;
                 few = g.few;

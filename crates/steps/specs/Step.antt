@@ -1,6 +1,6 @@
 -- One step of the walk over vectors in the work area: what the code asks, and what its answer means beside walk's own step.
 -- A step is told where it leads the sheet and what it may hold; WayLaws proves that it rests on nothing else of its way.
-use Rattle.std.specs.Prelude.{ℕ, ◌<◌, ◌≤◌, ◌≡◌, List, [], length}
+use Rattle.std.specs.Prelude.{ℕ, ◌<◌, ◌≤◌, ◌≡◌, List, [], length, Result, Ok, Err}
 use Rattle.number.specs.declared.Refusal.{Refusal}
 use Rattle.number.specs.Limits.{bytes, pool}
 use Rattle.meaning.specs.Re.{Re}
@@ -10,8 +10,8 @@ use Rattle.walk.specs.Walk.Step.{stopped, reached}
 use Rattle.vector.specs.Layout.{items}
 use Rattle.vector.specs.Vectors.{vector_of}
 use Rattle.vector.specs.Memory.{held_of, Kept}
-use Rattle.steps.specs.declared.Stepped.{Stepped}
-use Rattle.steps.specs.declared.Stepped.TheVariants.{Reached, Stopped}
+use Rattle.steps.specs.declared.Extent.{Extent}
+use Rattle.steps.specs.declared.Reached.{Reached}
 
 -- the way of one step: the sheet state that it leads to, how many items may be held, the place to tell, and the refusal of one more; terms as many as the pool takes
 abbrev pub way_of : ℕ → ℕ → ℕ → Refusal → Way
@@ -36,27 +36,32 @@ pub record Went (s : List ℕ) (n before limit top count j : ℕ) (w : Step) : T
   pub inside : j < count
 
 -- the answer is walk's
-abbrev pub Comes : List ℕ → ℕ → ℕ → ℕ → Step → Stepped → Type 0
-Comes s n before limit w (Reached top count j) = Went s n before limit top count j w
-Comes s n before limit w (Stopped r) = w ≡ stopped r
+abbrev pub Comes : List ℕ → ℕ → ℕ → ℕ → Step → Result Reached Refusal → Type 0
+Comes s n before limit w (Ok x) = Went s n before limit x.held.top x.held.count x.number w
+Comes s n before limit w (Err r) = w ≡ stopped r
 
 -- what a step leaves: memory of the same length, and walk's answer, from so many items before
-pub record Steps (s : List ℕ) (n before limit : ℕ) (s' : List ℕ) (w : Step) (r : Stepped) : Type 0 where
+pub record Steps (s : List ℕ) (n before limit : ℕ) (s' : List ℕ) (w : Step) (r : Result Reached Refusal) : Type 0 where
   pub same_length : length s' ≡ length s
   pub comes : Comes s' n before limit w r
 
 -- x is the index of the pool up to the top that was reached
-abbrev pub Follows : List ℕ → List ℕ → Stepped → Type 0
-Follows x s (Reached top count j) = Indexed x s top
-Follows x s (Stopped r) = Unit
+abbrev pub Follows : List ℕ → List ℕ → Result Reached Refusal → Type 0
+Follows x s (Ok y) = Indexed x s y.held.top
+Follows x s (Err r) = Unit
+
+-- the same after a row or more, of which only what is held is told
+abbrev pub Indexes : List ℕ → List ℕ → Result Extent Refusal → Type 0
+Indexes x s (Ok held) = Indexed x s held.top
+Indexes x s (Err r) = Unit
 
 abbrev pub first_item : List Re → Item
 first_item v = record { sheet = 0; vector = v; text = [] }
 
 -- the walk begins at vector 0, whatever its way, if that allows an item at all and as many terms as the pool takes
-pub record Begins (s : List ℕ) (n : ℕ) (v : List ℕ) (s' : List ℕ) (r : Stepped) : Type 0 where
+pub record Begins (s : List ℕ) (n : ℕ) (v : List ℕ) (s' : List ℕ) (r : Result Reached Refusal) : Type 0 where
   pub begins : (way : Way) → 1 ≤ way.limit → way.terms ≡ pool → Steps s n 0 way.limit s' (come way 0 nothing_held (first_item (vector_of s n v))) r
 
 -- an index of the pool is still one
-pub record Keeps (s : List ℕ) (top : ℕ) (s' : List ℕ) (r : Stepped) : Type 0 where
+pub record Keeps (s : List ℕ) (top : ℕ) (s' : List ℕ) (r : Result Reached Refusal) : Type 0 where
   pub keeps : (x : List ℕ) → Indexed x s top → Follows x s' r

@@ -11,11 +11,18 @@ use number::Refusal;
 use number::limits::POOL;
 use vector::{Vector, derive_vector, find, load, store_item};
 
-// What a step comes to: the pool's next free cell, how many items there are and the number reached; or the refusal.
+// What the work area holds: the pool's next free cell, and how many items there are.
 #[derive(Clone, Copy)]
-pub enum Stepped {
-    Reached(usize, usize, usize),
-    Stopped(Refusal),
+pub struct Extent {
+    pub top: usize,
+    pub count: usize,
+}
+
+// What a step comes to: what is held then, and the number reached.
+#[derive(Clone, Copy)]
+pub struct Reached {
+    pub held: Extent,
+    pub number: usize,
 }
 
 // The step from item `i`, whose number is told as `place`, by a byte, where the sheet goes to state `sheet`;
@@ -23,8 +30,7 @@ pub enum Stepped {
 pub fn step(
     index: &mut [u16],
     cells: &mut [u64],
-    top: usize,
-    count: usize,
+    held: Extent,
     n: usize,
     i: usize,
     place: usize,
@@ -32,43 +38,48 @@ pub fn step(
     sheet: usize,
     limit: usize,
     full: Refusal,
-) -> Stepped
-    requires ready { Ready cells.old n top count limit i byte }
-    requires indexed { Indexed index.old cells.old top }
-    ensures steps { Steps cells.old n count limit cells.new
-        (step (way_of sheet limit place full) i (held_of cells.old n top count) byte) result }
+) -> Result<Reached, Refusal>
+    requires ready { Ready cells.old n held.top held.count limit i byte }
+    requires indexed { Indexed index.old cells.old held.top }
+    ensures steps { Steps cells.old n held.count limit cells.new
+        (step (way_of sheet limit place full) i (held_of cells.old n held.top held.count) byte) result }
     ensures follows { Follows index.new cells.new result }
 {
     let v = load(cells, i);
-    let derived = derive_vector(index, cells, top, v, n, byte);
-    if derived.long {
-        return Stepped::Stopped(Refusal::Long(place));
+    let Some(derived) = derive_vector(index, cells, held.top, v, n, byte) else {
+        return Err(Refusal::Long(place));
+    };
+    if let Some(number) = find(cells, held.count, sheet, derived.vector) {
+        return Ok(Reached { held, number });
     }
-    let next = derived.top;
-    let w = derived.vector;
-    let at = find(cells, count, sheet, w);
-    if at < count {
-        return Stepped::Reached(top, count, at);
+    if limit <= held.count {
+        return Err(full);
     }
-    if limit <= count {
-        return Stepped::Stopped(full);
+    if POOL < derived.top {
+        return Err(Refusal::Pool(place));
     }
-    if POOL < next {
-        return Stepped::Stopped(Refusal::Pool(place));
-    }
-    store_item(cells, count, w, sheet, i, byte);
-    Stepped::Reached(next, count + 1, count)
+    store_item(cells, held.count, derived.vector, sheet, i, byte);
+    Ok(Reached {
+        held: Extent {
+            top: derived.top,
+            count: held.count + 1,
+        },
+        number: held.count,
+    })
 }
 
 // Vector 0, which stands in the pool already, becomes item 0, beside state 0 of the sheet.
-pub fn hold_first(cells: &mut [u64], top: usize, n: usize, v: Vector) -> Stepped
+pub fn hold_first(cells: &mut [u64], top: usize, n: usize, v: Vector) -> Result<Reached, Refusal>
     requires { First cells.old n top v.at }
     ensures begins { Begins cells.old n v.at cells.new result }
     ensures keeps { Keeps cells.old top cells.new result }
 {
     if POOL < top {
-        return Stepped::Stopped(Refusal::Pool(0));
+        return Err(Refusal::Pool(0));
     }
     store_item(cells, 0, v, 0, 0, 0);
-    Stepped::Reached(top, 1, 0)
+    Ok(Reached {
+        held: Extent { top, count: 1 },
+        number: 0,
+    })
 }

@@ -1,22 +1,20 @@
 -- What load, build and write answer, and what stands in lent memory after them, told by what is in front of an area, what is behind it and how long it is.
 -- load and build fill a table area alike, so that what a filled, an emptied and an unchanged one are is said here once for both; an area as it was is marked ₀.
-use Rattle.std.specs.Prelude.{ℕ, ◌-◌, ◌*◌, ◌≡◌, List, length, take, drop, replicate}
+use Rattle.std.specs.Prelude.{ℕ, ◌-◌, ◌*◌, ◌≡◌, Ok, Err, List, length, take, drop, replicate}
 use Rattle.number.specs.declared.Refusal.{Refusal}
 use Rattle.number.specs.Limits.{bytes}
 use Rattle.number.specs.Refused.{number, place, row_of}
 use Rattle.number.specs.Refused.Row.{row}
 use Rattle.number.specs.Refused.Outcome.{gives, refuses}
-use Rattle.table.specs.declared.Counted.TheVariants.{States, Refused}
-use Rattle.table.specs.declared.Written.TheVariants.{Bytes, Unwritten}
 use Rattle.table.specs.Table.{Table}
 use Rattle.table.specs.Calls.{counted, wrote, Filled, Output}
 
 -- the code's answers: a count is given as it is, and a refusal is its row of the table
 pub record Answers : Type 0 where
-  pub counts : (n : ℕ) → counted (States n) ≡ gives n
-  pub written : (n : ℕ) → wrote (Bytes n) ≡ gives n
-  pub uncounted : (r : Refusal) → row_of (counted (Refused r)) ≡ row (number r) (place r)
-  pub unwritten : (r : Refusal) → row_of (wrote (Unwritten r)) ≡ row (number r) (place r)
+  pub counts : (n : ℕ) → counted (Ok n) ≡ gives n
+  pub written : (n : ℕ) → wrote (Ok n) ≡ gives n
+  pub uncounted : (r : Refusal) → row_of (counted (Err r)) ≡ row (number r) (place r)
+  pub unwritten : (r : Refusal) → row_of (wrote (Err r)) ≡ row (number r) (place r)
 
 -- an area with n cells of a table in front: every other cell is 0, and there are as many cells as before
 pub record Holds (n : ℕ) (cells before after : List ℕ) : Type 0 where

@@ -1,27 +1,22 @@
 -- What the calls on sheets answer and leave in lent memory, for every input: the promises of load and write_sheet cite these.
 -- A refusal is the paper's by Refused; the order of refusals is the order of the tests.
-use Rattle.std.specs.Prelude.{ℕ, ◌-◌, Bool, cond, ◌||◌, List, ◌++◌, ltb, length, drop, replicate}
+use Rattle.std.specs.Prelude.{ℕ, ◌-◌, Result, Ok, Err, Bool, cond, ◌||◌, List, ◌++◌, ltb, length, drop, replicate}
 use Rattle.number.specs.declared.Refusal.{Refusal}
 use Rattle.number.specs.declared.Refusal.TheVariants.{Loaded, Room}
 use Rattle.number.specs.Limits.{states, table_cells}
 use Rattle.number.specs.Refused.{Answer, Outcome}
 use Rattle.number.specs.Refused.Answer.{got, refused}
 use Rattle.number.specs.Refused.Outcome.{gives, refuses}
-use Rattle.table.specs.declared.Counted.{Counted}
-use Rattle.table.specs.declared.Counted.TheVariants.{States, Refused}
-use Rattle.table.specs.declared.Written.{Written}
-use Rattle.table.specs.declared.Written.TheVariants.{Bytes, Unwritten}
 use Rattle.table.specs.Table.{Table, lent, well_formed}
 use Rattle.table.specs.Sheet.{read_sheet, write_sheet}
 
--- the code's answers as the paper has them
-abbrev pub counted : Counted → Outcome ℕ
-counted (States n) = gives n
-counted (Refused r) = refuses r
+-- the code's answers as the paper has them: the states of a table that a call filled an area with, or the bytes that it wrote
+abbrev pub counted : Result ℕ Refusal → Outcome ℕ
+counted (Ok n) = gives n
+counted (Err r) = refuses r
 
-abbrev pub wrote : Written → Outcome ℕ
-wrote (Bytes n) = gives n
-wrote (Unwritten r) = refuses r
+abbrev pub wrote : Result ℕ Refusal → Outcome ℕ
+wrote = counted
 
 -- cells in a lent area of n cells: the rest of it is 0
 abbrev pub padded : ℕ → List ℕ → List ℕ

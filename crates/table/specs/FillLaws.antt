@@ -1,25 +1,22 @@
--- Laws of filling a part of memory with one value, cell by cell.
--- The code that fills goes from the front of the part to its end.
-use Rattle.std.specs.Prelude.{ℕ, ◌+◌, ◌-◌, ◌≤◌, ◌<◌, ◌≡◌, List, [], ◌∷◌, length, set, replicate}
-use Rattle.std.proofs.Common.{add-zero, arith, sym, ap, ◌∙◌, append-nil, take-append-drop}
-use Rattle.std.proofs.Math.Nat.{sub_self}
-use Rattle.std.proofs.lemmas.List.{length-replicate, replicate-append-replicate}
-use Rattle.number.specs.Lists.{written, written_length, written_more, stored_one}
+-- A part of memory that the library's `fill` of a slice filled with one value.
+use Rattle.std.specs.Prelude.{ℕ, ◌-◌, ◌≤◌, ◌≡◌, refl, List, length, take, drop, replicate}
+use Rattle.std.proofs.Common.{arith, ◌∙◌, length-take, length-drop}
+use Rattle.std.proofs.Math.Seq.{take-length}
+use Rattle.std.proofs.lemmas.List.{length-replicate}
+use Rattle.std.proofs.lemmas.Slice.{put_mid-paste}
+use borrow.Rule.Slice.PartMut.{put_mid}
+use Rattle.number.specs.Lists.{written}
 
-pub filled_none : (s : List ℕ) (from value : ℕ) → s ≡ written s from (replicate (from - from) value)
+-- what stands in a part of the memory is written there
+pub part_written : (s : List ℕ) (from k : ℕ) (w : List ℕ) → length w ≡ k → put_mid from k s w ≡ written s from w
 unfolding written
-filled_none s from value = rw (sub_self, add-zero, append-nil) (sym (take-append-drop from s))
+part_written s from k w e =
+    put_mid-paste from k s w w (length w) refl e refl ∙ rw (take-length w) refl
 
-pub filled_more : (s : List ℕ) (from i value : ℕ) → from ≤ i → i < length s
-    → set (written s from (replicate (i - from) value)) i value ≡ written s from (replicate (i + 1 - from) value)
-filled_more s from i value h k =
-    let n : ℕ = i - from in
-    let done : List ℕ = replicate n value in
-    let size : length done ≡ n = length-replicate n value in
-    let kept : length (written s from done) ≡ length s = written_length s from done (omega arith) in
-    let here : i ≡ from + length done = omega arith in
-    let longer : i + 1 - from ≡ n + 1 = omega arith in
-    stored_one (written s from done) i value (omega arith)
-    ∙ ap (λ (m : ℕ). written (written s from done) m (value ∷ [])) here
-    ∙ written_more s from done (value ∷ []) (omega arith)
-    ∙ ap (written s from) (rw longer (replicate-append-replicate n 1 value))
+pub part_filled : (s : List ℕ) (from end value : ℕ) {w : List ℕ} → end ≤ length s
+    → w ≡ replicate (length (take (end - from) (drop from s))) value
+    → put_mid from (end - from) s w ≡ written s from (replicate (end - from) value)
+part_filled s from end value h e =
+    let size : length (take (end - from) (drop from s)) ≡ end - from = simp (length-take, length-drop) (omega arith) in
+    let n : ℕ = end - from in
+    rw (e, size) (part_written s from n (replicate n value) (length-replicate n value))

@@ -1,6 +1,8 @@
 -- Laws for comparing two terms in step: what each return of a look at two nodes tells, and one for each place of the loop.
 -- In a turn a pair of nodes is seen: where they are told equal the last pair that waits comes next, else their children do.
-use Prim.Native.Nat.{ℕ, zero, suc, ◌+◌, ◌-◌, ◌<◌, ◌≤◌, Ordering}
+use Prim.Native.Nat.{ℕ, zero, suc, ◌+◌, ◌-◌, ◌<◌, ◌≤◌, Ordering, compare}
+use Rattle.std.proofs.lemmas.Bool.{lt-ltb, le-ltb}
+use borrow.Author.Tests.{eq-eqb, ne_eqb}
 use Rattle.std.proofs.Common.{arith, sym, ap, ◌∙◌}
 use Rattle.std.specs.Prelude.{◌≡◌, refl, true, false, List, length, get_or, set}
 use Rattle.number.specs.Limits.{work_cells}
@@ -9,9 +11,12 @@ use Rattle.meaning.specs.PartLaws.{size_some}
 use Rattle.meaning.specs.SizeLaws.{short_size}
 use Rattle.meaning.specs.Limited.{short}
 use Rattle.meaning.specs.Order.{order, also}
-use Rattle.meaning.specs.OrderLaws.{also_assoc, also_eq}
+use Rattle.meaning.specs.OrderLaws.{Compared, compared, also_assoc, also_eq}
+use Rattle.meaning.specs.OrderLaws.Compared.{less, equal, more}
 use Rattle.term.specs.declared.Term.{Term}
-use Rattle.term.specs.declared.Order.{Order}
+use Rattle.std.specs.declared.cmp.Ordering.{Ordering as Answer}
+use Rattle.std.specs.declared.cmp.Ordering.TheVariants.{Less, Equal, Greater}
+use Rattle.std.specs.Ordering.{is_ne, nat_cmp, ordering_then}
 use Rattle.term.specs.declared.Glance.{Glance}
 use Rattle.term.specs.declared.Glance.TheVariants.{Told, One, Two}
 use Rattle.term.specs.Cells.{term, Sound}
@@ -21,6 +26,26 @@ use Rattle.term.specs.Compares.{decides, Only, Both, Glanced, orders, Comparing}
 use Rattle.term.specs.CellLaws.{sound_less}
 use Rattle.term.specs.ReadLaws.{arity_same, arity_two, one_part, two_parts, one_size, two_size, order_only, order_both}
 use Rattle.term.specs.PlaceLaws.{set_there, set_other, listed_less, listed_more, sizes_most, ahead_last, ahead_set}
+
+-- ---- the library's comparisons, in the order's words
+
+number_by : {m n : ℕ} {o : Ordering} → Compared m n o → ordering (nat_cmp m n) ≡ o
+number_by {m} {n} (less h) = rw (lt-ltb m n h)
+number_by {m} {n} (equal h) = rw (le-ltb m n (omega arith), eq-eqb m n h)
+number_by {m} {n} (more h) = rw (le-ltb m n (omega arith), ne_eqb m n (λ e. omega arith))
+
+pub ordering_number : (m n : ℕ) → ordering (nat_cmp m n) ≡ compare m n
+ordering_number m n = number_by (compared m n)
+
+pub ordering_also : (x y : Answer) → ordering (ordering_then x y) ≡ also (ordering x) (ordering y)
+ordering_also Less y = refl
+ordering_also Equal y = refl
+ordering_also Greater y = refl
+
+pub ordering_decides : (x : Answer) → is_ne x ≡ decides (ordering x)
+ordering_decides Less = refl
+ordering_decides Equal = refl
+ordering_decides Greater = refl
 
 -- ---- a look at two nodes
 
@@ -48,7 +73,7 @@ module _ {s : List ℕ} {i j : ℕ} {u v : Term} (x : Found s i u) (y : Found s 
 
 -- what was told, by the answer
 module _ {s : List ℕ} {i j : ℕ} {r : Glance} (g : Glanced s i j r) where
-  pub told : {o : Order} → r ≡ Told o → ordering o ≡ order (term s i) (term s j)
+  pub told : {o : Answer} → r ≡ Told o → ordering o ≡ order (term s i) (term s j)
   told e = rw e at g.shown
 
   pub told_one : {a b : ℕ} → r ≡ One a b → Only s i j a b

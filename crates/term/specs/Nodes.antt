@@ -6,8 +6,8 @@ use mir.Val.{bool_byte}
 use Rattle.meaning.specs.Re.{parts}
 use Rattle.term.specs.declared.Term.{Term}
 use Rattle.term.specs.declared.Term.TheVariants.{Nothing, Empty, Range, Cat, Alt, Star, And, Not}
-use Rattle.term.specs.declared.Order.{Order}
-use Rattle.term.specs.declared.Order.TheVariants.{Less, Equal, Greater}
+use Rattle.std.specs.declared.cmp.Ordering.{Ordering as Answer}
+use Rattle.std.specs.declared.cmp.Ordering.TheVariants.{Less, Equal, Greater}
 use Rattle.term.specs.Cells.{field_size, packed, link_of, node_of, grow, term, Below, Sound}
 use Rattle.term.specs.Area.{Makes}
 
@@ -74,7 +74,7 @@ abbrev pub empty_node : Term → Bool
 empty_node u = eqb (kind_of u) (kind_of Empty)
 
 -- the code's answer of a comparison
-abbrev pub ordering : Order → Ordering
+abbrev pub ordering : Answer → Ordering
 ordering Less = Ordering.lt
 ordering Equal = Ordering.eq
 ordering Greater = Ordering.gt

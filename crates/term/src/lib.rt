@@ -10,12 +10,13 @@ ghost use Rattle.meaning.specs.Limited.{short};
 ghost use Rattle.term.specs.Cells.{field_size, kind_size, packed, link_of, rebuilt as node_by, node_of, grow, term, Below, Sound};
 ghost use Rattle.term.specs.Nodes.{kind_of, first_of, second_of, arity_of, nothing_node, empty_node, ordering, Fields, cell_of, Over, Held, Pushed};
 ghost use Rattle.term.specs.Counts.{Countable, ShortTold};
-ghost use Rattle.term.specs.Compares.{decides, Glanced};
+ghost use Rattle.term.specs.Compares.{Glanced};
 
 use number::limits::{TREE_NODES, WORK_CELLS};
+use std::cmp::Ordering;
 
 // A node of a term: a range's bounds, or the numbers of the cells of its children.
-#[derive(Clone, Copy)]
+#[derive(Clone, Copy, PartialEq, Eq)]
 pub enum Term {
     Nothing,
     Empty,
@@ -27,12 +28,11 @@ pub enum Term {
     Not(usize),
 }
 
-// How one thing stands to another in an order.
+// The cell of a term that was built, with the next free cell.
 #[derive(Clone, Copy)]
-pub enum Order {
-    Less,
-    Equal,
-    Greater,
+pub struct Built {
+    pub root: usize,
+    pub top: usize,
 }
 
 // The packing of a cell: the kind lowest, then two fields and a link, each as wide as a cell's number, then a bit; what is above stays free.
@@ -317,46 +317,18 @@ pub fn is_short(cells: &mut [u64], top: usize, i: usize) -> bool
     false
 }
 
-fn compare_numbers(m: usize, n: usize) -> Order
-    ensures { ordering result ≡ compare m n }
-{
-    if m < n {
-        return Order::Less;
-    }
-    if n < m {
-        return Order::Greater;
-    }
-    Order::Equal
-}
-
 // The first comparison decides, and where it finds no difference, the second.
-fn compare_pairs(a: usize, b: usize, c: usize, d: usize) -> Order
+fn compare_pairs(a: usize, b: usize, c: usize, d: usize) -> Ordering
     ensures { ordering result ≡ also (compare a c) (compare b d) }
 {
-    let first = compare_numbers(a, c);
-    match first {
-        Order::Less => Order::Less,
-        Order::Equal => compare_numbers(b, d),
-        Order::Greater => Order::Greater,
-    }
-}
-
-// Whether a comparison found a difference.
-fn differs(order: Order) -> bool
-    ensures { result ≡ decides (ordering order) }
-{
-    match order {
-        Order::Less => true,
-        Order::Equal => false,
-        Order::Greater => true,
-    }
+    a.cmp(&c).then(b.cmp(&d))
 }
 
 // What two nodes tell of the order of their terms: it is known, or it is that of their only children, or that of their first children
 // and then, where these are equal, of their second ones.
 #[derive(Clone, Copy)]
 enum Glance {
-    Told(Order),
+    Told(Ordering),
     One(usize, usize),
     Two(usize, usize, usize, usize),
 }
@@ -368,17 +340,17 @@ fn compare_nodes(cells: &[u64], i: usize, j: usize) -> Glance
     ensures { Glanced cells.now i j result }
 {
     if i == j {
-        return Glance::Told(Order::Equal);
+        return Glance::Told(Ordering::Equal);
     }
     let x = node_at(cells, i);
     let y = node_at(cells, j);
     let kind = kind_of(x);
     let other = kind_of(y);
     if kind < other {
-        return Glance::Told(Order::Less);
+        return Glance::Told(Ordering::Less);
     }
     if other < kind {
-        return Glance::Told(Order::Greater);
+        return Glance::Told(Ordering::Greater);
     }
     let children = arity(x);
     if children == 0 {
@@ -392,7 +364,7 @@ fn compare_nodes(cells: &[u64], i: usize, j: usize) -> Glance
 
 // Compares two terms, gone through in step from left to right: where two nodes have two children each, the places of the second ones
 // are listed, to be compared when the first ones were found equal.
-fn compare_parts(cells: &[u64], i: usize, j: usize) -> Order
+fn compare_parts(cells: &[u64], i: usize, j: usize) -> Ordering
     requires sound { Sound cells.now (i + 1) }
     requires sound_2 { Sound cells.now (j + 1) }
     requires i_value { short (term cells.now i) ≡ true }
@@ -410,7 +382,7 @@ fn compare_parts(cells: &[u64], i: usize, j: usize) -> Order
                 if waiting == 0 {
                     return order;
                 }
-                if differs(order) {
+                if order.is_ne() {
                     return order;
                 }
                 waiting -= 1;
@@ -433,7 +405,7 @@ fn compare_parts(cells: &[u64], i: usize, j: usize) -> Order
 }
 
 // The order of two terms. Most are told apart by a glance; only what is not goes on to the parts, and needs the list.
-pub fn compare_terms(cells: &[u64], i: usize, j: usize) -> Order
+pub fn compare_terms(cells: &[u64], i: usize, j: usize) -> Ordering
     requires sound { Sound cells.now (i + 1) }
     requires sound_2 { Sound cells.now (j + 1) }
     requires i_value { short (term cells.now i) ≡ true }

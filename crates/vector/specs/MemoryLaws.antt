@@ -1,6 +1,6 @@
 -- Laws of what the work area holds: items by number, and that they stay what they are while the pool grows above its top or another item is stored.
 -- In a pool no two terms are equal, so equal vectors have equal numbers and `find` answers the number that walk means.
-use Rattle.std.specs.Prelude.{ℕ, zero, suc, ◌+◌, ◌*◌, ◌-◌, ◌<◌, ◌≤◌, ◌≡◌, refl, ◌≢◌, Bool, true, false, cond, List, [], ◌∷◌, ◌++◌, length, get_or, take, drop}
+use Rattle.std.specs.Prelude.{ℕ, zero, suc, ◌+◌, ◌*◌, ◌-◌, ◌<◌, ◌≤◌, ◌≡◌, refl, ◌≢◌, Bool, true, false, cond, Option, Some, None, unwrap_or, List, [], ◌∷◌, ◌++◌, length, get_or, take, drop}
 use Rattle.std.proofs.Common.{add-one, arith, sym, ap, ◌∙◌, append_assoc, below_more, length-append, length-take, length-drop, ext_get_or, get_or-take, get_or-drop, length-take-le, drop_at, take_at, take_all}
 use Rattle.std.proofs.Math.Decide.{dec_lt}
 use Rattle.std.proofs.Math.Dec.{eqb-suc-zero}
@@ -208,20 +208,25 @@ number_is (y ∷ ys) x (suc r) h p b =
     go true e ih = absurd (b 0 (omega arith) (pair_same y x e))
     go false e ih = ap suc ih
 
-pub found_number : (s : List ℕ) (n top count sheet : ℕ) (v : List ℕ) (r : ℕ) → Kept s n top count → Numbers n top v → Finds s count sheet v r
-    → (x : Item) → x.sheet ≡ sheet → x.vector ≡ vector_of s n v → r ≡ number_in (items_of s n count) x
+pub found_number : (s : List ℕ) (n top count sheet : ℕ) (v : List ℕ) (r : Option ℕ) → Kept s n top count → Numbers n top v → Finds s count sheet v r
+    → (x : Item) → x.sheet ≡ sheet → x.vector ≡ vector_of s n v → unwrap_or r count ≡ number_in (items_of s n count) x
 found_number s n top count sheet v r kept m f x p q =
-    number_is (items_of s n count) x r (omega (arith, items_length s n count, f.within))
-    (λ h. there (omega (arith, items_length s n count))) before
+    number_is (items_of s n count) x (unwrap_or r count) (omega (arith, items_length s n count, most r f))
+    (λ h. there r f (omega (arith, items_length s n count))) (before r f)
   where
-    there : r < count → Pair (get_or (items_of s n count) r none) x
-    there h =
-        let i = f.there h in
-        rw (items_at s n count r h) (record { same_sheet = i.same_sheet ∙ sym p; same_vector_lem = ap (vector_of s n) i.same_numbers ∙ sym q })
+    most : (r : Option ℕ) → Finds s count sheet v r → unwrap_or r count ≤ count
+    most None f = omega arith
+    most (Some k) f = omega (arith, f.within)
 
-    before : (k : ℕ) → k < r → Pair (get_or (items_of s n count) k none) x → ⊥
-    before k h o =
-        let l : k < count = omega (arith, f.within) in
+    there : (r : Option ℕ) → Finds s count sheet v r → unwrap_or r count < count → Pair (get_or (items_of s n count) (unwrap_or r count) none) x
+    there None f h = absurd (omega arith)
+    there (Some k) f h =
+        let i = f.there in
+        rw (items_at s n count k h) (record { same_sheet = i.same_sheet ∙ sym p; same_vector_lem = ap (vector_of s n) i.same_numbers ∙ sym q })
+
+    before : (r : Option ℕ) → Finds s count sheet v r → (k : ℕ) → k < unwrap_or r count → Pair (get_or (items_of s n count) k none) x → ⊥
+    before r f k h o =
+        let l : k < count = omega (arith, most r f) in
         let o' : Pair (item_of s n k) x = rw (items_at s n count k l) at o in
         f.before k h (record {
           same_sheet = o'.same_sheet ∙ p;

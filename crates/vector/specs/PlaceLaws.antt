@@ -116,11 +116,8 @@ module _ (s : List ℕ) (n : ℕ) (v : List ℕ) (byte i least edge : ℕ) (ok :
       ap (next_edge_all byte) (drop-cons (vector_of s n v) i Nothing (omega (arith, vector_length s n v m)))
       ∙ edge_more byte (get_or (vector_of s n v) i Nothing) (drop (suc i) (vector_of s n v)) ∙ rw (add-one, vector_at s n v i m h, e)
 
-  pub least_new : edge < least → Least s n v byte (i + 1) edge
-  least_new k = record { most = omega (arith, l.most); whole = omega (arith, l.whole, least_split) }
-
-  pub least_old : least ≤ edge → Least s n v byte (i + 1) least
-  least_old k = record { most = l.most; whole = omega (arith, l.whole, least_split) }
+  pub least_more : Least s n v byte (i + 1) (min least edge)
+  least_more = record { most = omega (arith, l.most); whole = omega (arith, l.whole, least_split) }
 
 pub least_last : (s : List ℕ) (n : ℕ) (v : List ℕ) (byte least : ℕ) → Reads s n v → Least s n v byte n least → least ≡ next_edge_all byte (vector_of s n v)
 least_last s n v byte least ok l =

@@ -1,6 +1,6 @@
 -- What the code on vectors asks and tells: one record a contract, fields by name.
 -- Done is also how far a derivative of a vector has come after its first places.
-use Rattle.std.specs.Prelude.{ℕ, ◌+◌, ◌*◌, ◌<◌, ◌≤◌, ◌≡◌, Bool, true, false, List, length, get_or, set}
+use Rattle.std.specs.Prelude.{ℕ, ◌+◌, ◌*◌, ◌<◌, ◌≤◌, ◌≡◌, Bool, true, Option, IfSome, IfNone, unwrap_or, List, length, get_or, set}
 use Rattle.std.proofs.Math.Seq.{paste}
 use Rattle.number.specs.Limits.{rules, tree_nodes, pool}
 use Rattle.meaning.specs.Limited.{short}
@@ -14,11 +14,6 @@ use Rattle.vector.specs.declared.Derived.{Derived}
 use Rattle.vector.specs.Layout.{items, nothing_cell, vectors_at, sheets_at, parents_at, bytes_at, work_length}
 use Rattle.vector.specs.Vectors.{vector_of, Numbers}
 use Rattle.vector.specs.Memory.{numbers_at, Shaped}
-
--- true exactly where the numbers are equal
-pub record Tells (x y : List ℕ) (r : Bool) : Type 0 where
-  pub equal : r ≡ true → x ≡ y
-  pub told : x ≡ y → r ≡ true
 
 -- item k of the work area
 pub record Within (s : List ℕ) (k : ℕ) : Type 0 where
@@ -61,11 +56,11 @@ pub record Spared (s : List ℕ) (top : ℕ) (s' : List ℕ) : Type 0 where
   pub kept_below : (i : ℕ) → i < top → get_or s' i 0 ≡ get_or s i 0
   pub kept_above : (i : ℕ) → nothing_cell ≤ i → get_or s' i 0 ≡ get_or s i 0
 
-pub record Derives (s : List ℕ) (top n : ℕ) (v : List ℕ) (byte : ℕ) (x' s' : List ℕ) (r : Derived) : Type 0 where
+pub record Derives (s : List ℕ) (top n : ℕ) (v : List ℕ) (byte : ℕ) (x' s' : List ℕ) (r : Option Derived) : Type 0 where
   pub spared : Spared s top s'
-  pub too_long : r.long ≡ true → derived byte (vector_of s n v) ≡ TooLong
-  pub done : r.long ≡ false → Done s top n v byte s' r.top r.vector.at
-  pub indexed : r.long ≡ false → Indexed x' s' r.top
+  pub too_long : IfNone r (derived byte (vector_of s n v) ≡ TooLong)
+  pub done : IfSome r (λ d. Done s top n v byte s' d.top d.vector.at)
+  pub indexed : IfSome r (λ d. Indexed x' s' d.top)
 
 -- item k has this sheet state and these numbers
 pub record IsPair (s : List ℕ) (k sheet : ℕ) (v : List ℕ) : Type 0 where
@@ -76,11 +71,11 @@ pub record PairTold (s : List ℕ) (k sheet : ℕ) (v : List ℕ) (r : Bool) : T
   pub equal : r ≡ true → IsPair s k sheet v
   pub told : IsPair s k sheet v → r ≡ true
 
--- r is the first of so many items with this sheet state and these numbers, or their count
-pub record Finds (s : List ℕ) (count sheet : ℕ) (v : List ℕ) (r : ℕ) : Type 0 where
-  pub within : r ≤ count
-  pub there : r < count → IsPair s r sheet v
-  pub before : (k : ℕ) → k < r → IsPair s k sheet v → ⊥
+-- r is the first of so many items with this sheet state and these numbers; where there is none, no item below their count has them
+pub record Finds (s : List ℕ) (count sheet : ℕ) (v : List ℕ) (r : Option ℕ) : Type 0 where
+  pub within : IfSome r (λ k. k < count)
+  pub there : IfSome r (λ k. IsPair s k sheet v)
+  pub before : (k : ℕ) → k < unwrap_or r count → IsPair s k sheet v → ⊥
 
 -- the memory once a vector, and once an item, has been stored
 abbrev pub vector_stored : List ℕ → ℕ → List ℕ → List ℕ

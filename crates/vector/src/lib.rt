@@ -9,7 +9,7 @@ ghost use Rattle.meaning.specs.Rules.{label};
 ghost use Rattle.meaning.specs.Edges.{next_edge_all};
 ghost use Rattle.vector.specs.Vectors.{vector_of};
 ghost use Rattle.vector.specs.Memory.{numbers_at};
-ghost use Rattle.vector.specs.Promises.{Tells, Within, Reads, ReadsShort, Derivable, Derives, PairTold, Finds, vector_stored, item_stored};
+ghost use Rattle.vector.specs.Promises.{Within, Reads, ReadsShort, Derivable, Derives, PairTold, Finds, vector_stored, item_stored};
 
 use normal::Made;
 use number::limits::{BYTES, RULES};
@@ -18,34 +18,17 @@ pub mod layout;
 
 use layout::{BYTES_AT, NOTHING_CELL, PARENTS_AT, SHEETS_AT, VECTORS_AT};
 
-// A vector: the numbers of its 32 terms, one for each rule.
-#[derive(Clone, Copy)]
+// A vector: the numbers of its 32 terms, one for each rule. Two are equal where they have the same number at every place.
+#[derive(Clone, Copy, PartialEq, Eq)]
 pub struct Vector {
     pub at: [usize; RULES],
 }
 
-// A derived vector with the pool's next free cell, or that a term on the way was too long.
+// A derived vector with the pool's next free cell.
 #[derive(Clone, Copy)]
 pub struct Derived {
-    pub long: bool,
     pub top: usize,
     pub vector: Vector,
-}
-
-// Whether two vectors have the same number at every place.
-fn same(a: Vector, b: Vector) -> bool
-    ensures { Tells a.at b.at result }
-{
-    let x = a.at;
-    let y = b.at;
-    let mut place: usize = 0;
-    while place < RULES {
-        if x[place] != y[place] {
-            return false;
-        }
-        place += 1;
-    }
-    true
 }
 
 // The vector of item `k`.
@@ -53,13 +36,11 @@ pub fn load(cells: &[u64], k: usize) -> Vector
     requires { Within cells.now k }
     ensures { result.at ≡ numbers_at cells.now k }
 {
-    let mut to = [0usize; RULES];
-    let mut i: usize = 0;
-    while i < RULES {
-        to[i] = cells[VECTORS_AT + k * RULES + i] as usize;
-        i += 1;
+    let mut at = [0usize; RULES];
+    for i in 0..RULES {
+        at[i] = cells[VECTORS_AT + k * RULES + i] as usize;
     }
-    Vector { at: to }
+    Vector { at }
 }
 
 // Stores the vector of item `k`.
@@ -67,11 +48,8 @@ fn store(cells: &mut [u64], k: usize, v: Vector)
     requires { Within cells.old k }
     ensures { cells.new ≡ vector_stored cells.old k v.at }
 {
-    let from = v.at;
-    let mut i: usize = 0;
-    while i < RULES {
-        cells[VECTORS_AT + k * RULES + i] = from[i] as u64;
-        i += 1;
+    for i in 0..RULES {
+        cells[VECTORS_AT + k * RULES + i] = v.at[i] as u64;
     }
 }
 
@@ -81,14 +59,10 @@ pub fn label_of(cells: &[u64], v: Vector, from: usize, to: usize) -> usize
     requires from_le_to { from ≤ to }
     ensures { result ≡ label (drop from (vector_of cells.now to v.at)) }
 {
-    let at = v.at;
-    let mut left = to - from;
-    while 0 < left {
-        let i = to - left;
-        if term::nullable(cells, at[i]) {
+    for i in from..to {
+        if term::nullable(cells, v.at[i]) {
             return i - from + 1;
         }
-        left -= 1;
     }
     0
 }
@@ -99,20 +73,14 @@ pub fn edge_of(cells: &[u64], v: Vector, n: usize, byte: usize) -> usize
     requires byte_le_last_byte { byte ≤ last_byte }
     ensures { result ≡ next_edge_all byte (vector_of cells.now n v.at) }
 {
-    let at = v.at;
     let mut least = BYTES;
-    let mut i: usize = 0;
-    while i < n {
-        let edge = derivative::next_edge(cells, at[i], byte);
-        if edge < least {
-            least = edge;
-        }
-        i += 1;
+    for i in 0..n {
+        least = least.min(derivative::next_edge(cells, v.at[i], byte));
     }
     least
 }
 
-// The vector after `byte`: each of the first `n` terms derived above the pool and put into it. The pool of a vector that is Long is given up.
+// The vector after `byte`: each of the first `n` terms derived above the pool and put into it; None where one is too long, and the pool is given up.
 pub fn derive_vector(
     index: &mut [u16],
     cells: &mut [u64],
@@ -120,32 +88,24 @@ pub fn derive_vector(
     v: Vector,
     n: usize,
     byte: usize,
-) -> Derived
+) -> Option<Derived>
     requires { Derivable index.old cells.old top n v.at }
     ensures { Derives cells.old top n v.at byte index.new cells.new result }
 {
-    let from = v.at;
-    let mut to = [NOTHING_CELL; RULES];
+    let mut at = [NOTHING_CELL; RULES];
     let mut next = top;
-    let mut i: usize = 0;
-    while i < n {
-        let Made::Term(root, _) = derivative::derive(cells, next, from[i], byte) else {
-            return Derived {
-                long: true,
-                top,
-                vector: v,
-            };
+    for i in 0..n {
+        let Made::Term(root, _) = derivative::derive(cells, next, v.at[i], byte) else {
+            return None;
         };
         let placed = pooling::put_term(index, cells, next, root);
-        to[i] = placed.root;
+        at[i] = placed.root;
         next = placed.top;
-        i += 1;
     }
-    Derived {
-        long: false,
+    Some(Derived {
         top: next,
-        vector: Vector { at: to },
-    }
+        vector: Vector { at },
+    })
 }
 
 // Whether item `k` has this sheet state and this vector.
@@ -153,26 +113,21 @@ fn is_pair(cells: &[u64], k: usize, sheet: usize, v: Vector) -> bool
     requires { Within cells.now k }
     ensures { PairTold cells.now k sheet v.at result }
 {
-    if cells[SHEETS_AT + k] as usize != sheet {
-        return false;
-    }
-    same(load(cells, k), v)
+    cells[SHEETS_AT + k] as usize == sheet && load(cells, k) == v
 }
 
-// The first of the items below `count` with this sheet state and this vector, or `count` if there is none.
-pub fn find(cells: &[u64], count: usize, sheet: usize, v: Vector) -> usize
+// The first of the items below `count` with this sheet state and this vector.
+pub fn find(cells: &[u64], count: usize, sheet: usize, v: Vector) -> Option<usize>
     requires work_length_in_bounds { work_length ≤ length cells.now }
     requires count_le { count ≤ items }
     ensures { Finds cells.now count sheet v.at result }
 {
-    let mut k: usize = 0;
-    while k < count {
+    for k in 0..count {
         if is_pair(cells, k, sheet, v) {
-            return k;
+            return Some(k);
         }
-        k += 1;
     }
-    k
+    None
 }
 
 // Stores item `k`: its vector, its sheet state, the item it was found from and the byte.
@@ -190,9 +145,5 @@ pub fn store_item(cells: &mut [u64], k: usize, v: Vector, sheet: usize, parent: 
 pub fn clear(cells: &mut [u64])
     ensures { cells.new ≡ replicate (length cells.old) 0 }
 {
-    let mut i: usize = 0;
-    while i < cells.len() {
-        cells[i] = 0;
-        i += 1;
-    }
+    cells.fill(0);
 }

@@ -1,90 +1,66 @@
 -- `checking::check_rules` meets its contract: what is left to read tells what was asked, by one law of the rules of a book a turn.
--- The measure is the number of rules that are left. Assumes nothing.
-use Prim.Native.Nat.{suc, ◌-◌, ◌≤◌}
+-- Assumes nothing.
+use Prim.Native.Nat.{suc, ◌+◌, ◌-◌, ◌≤◌}
+use native.Mathlib.Nat.{sub-zero}
 use native.Mathlib.Omega.{arith}
-use mathlib.Core.Path.{◌≡◌, refl, sym, ap, ◌∙◌}
+use mathlib.Core.Path.{◌≡◌, refl, sym}
 use borrow.Author.Rules.{rules}
+use Rattle.std.proofs.lemmas.Result.{err_from_is_err_and}
 use Rattle.number.specs.Limits.{nodes}
-use Rattle.number.specs.Numbers.{taken}
 use Rattle.number.proofs.NumberLaws.{field_read}
-use Rattle.book.specs.AnswerLaws.{got_is, value_told}
-use Rattle.book.specs.CodeLaws.{counted, HeadRead, rules_none, rules_kind_refused, rules_count_refused, rules_over}
+use Rattle.book.specs.AnswerLaws.{got_is}
+use Rattle.book.specs.CodeLaws.{HeadRead, rules_none, rules_kind_refused, rules_count_refused, rules_over}
 use Rattle.book.specs.CodeLaws.{rules_nodes_refused, rules_rest_refused, rules_rest_got}
 use Rattle.checking.proofs.check_rules.Goals as goal
+use Rattle.checking.proofs.check_rules.Goals.{In_ok-size}
 
-pub loop-more-init : goal.loop-more-init
-loop-more-init c = (search rules, λ r e. e, λ n all after s e. got_is e (omega arith) refl)
+-- a rule's kind and its node count, as they were read
+head_read : (c : In_ok-size)
+    → HeadRead c.args.book.now c.loop.place c.in_ok-at_count.field-0-0 c.in_ok-at_count.at_count c.in_ok-size.size c.in_ok-size.first
+head_read c = record { kind_read = sym c.in_ok-at_count.ensures.answer; count_read = sym c.in_ok-size.ensures.answer }
 
-pub returns-in_default : goal.returns-in_default
-returns-in_default c =
-    let told = ap taken c.in_default.is in
-    told ∙ sym (c.loop-more.invariant.1 _ (rules_kind_refused _ _ c.loop-more.more (c.loop-more.more - 1) _ _ _ (omega arith)
-    (sym c.read_field-kind.ensures.answer ∙ told)))
+pub loop-init : goal.loop-init
+loop-init c = (omega arith, λ r e. rw sub-zero at e, λ n all after s e. got_is (rw sub-zero at e) (omega arith) refl)
 
-pub returns-in_default-size : goal.returns-in_default-size
-returns-in_default-size c =
-    let told = ap taken c.in_default-size.is in
-    let kind_read = value_told c.read_field-kind.ensures.answer c.in-Value.is in
-    told ∙ sym (c.loop-more.invariant.1 _ (rules_count_refused _ _ c.loop-more.more (c.loop-more.more - 1) _ _ _ _ _ (omega arith) kind_read
-    (sym c.read_field-size.ensures.answer ∙ told)))
+pub returns-in_err-at_count : goal.returns-in_err-at_count
+returns-in_err-at_count c =
+    let told = err_from_is_err_and c.from_residual.result c.from_residual.ensures.1 in
+    let some : c.args.count - c.loop.counter ≡ suc (c.args.count - (c.loop.counter + 1)) = omega arith in
+    rw (told.1, told.2) (sym (c.loop.invariant.1 _ (rules_kind_refused _ _ _ _ _ _ _ some (sym c.in_err-at_count.ensures.answer))))
+
+pub returns-in_err-size : goal.returns-in_err-size
+returns-in_err-size c =
+    let told = err_from_is_err_and c.from_residual-in_err-size.result c.from_residual-in_err-size.ensures.1 in
+    let some : c.args.count - c.loop.counter ≡ suc (c.args.count - (c.loop.counter + 1)) = omega arith in
+    rw (told.1, told.2) (sym (c.loop.invariant.1 _
+    (rules_count_refused _ _ _ _ _ _ _ _ _ some (sym c.in_ok-at_count.ensures.answer) (sym c.in_err-size.ensures.answer))))
 
 pub overflow_add-sum : goal.overflow_add-sum
 overflow_add-sum c =
-    let head_read : HeadRead c.args.book.now c.loop-more.place
-    c.in-Value.field-0 c.in-Value.at_count c.in-Value-size.m c.in-Value-size.first = record {
-      kind_read = value_told c.read_field-kind.ensures.answer c.in-Value.is;
-      count_read = value_told c.read_field-size.ensures.answer c.in-Value-size.is;
-    } in
-    let count_fits : c.in-Value-size.m ≤ nodes = (field_read _ _ _ _ _ _ head_read.count_read).high in
-    omega (arith, count_fits)
+    let count_fits : c.in_ok-size.size ≤ nodes = (field_read _ _ _ _ _ _ (head_read c).count_read).high in
+    search rules
 
-pub returns-then-sum-m-gt-NODES : goal.returns-then-sum-m-gt-NODES
-returns-then-sum-m-gt-NODES c =
-    let head_read : HeadRead c.args.book.now c.loop-more.place
-    c.in-Value.field-0 c.in-Value.at_count c.in-Value-size.m c.in-Value-size.first = record {
-      kind_read = value_told c.read_field-kind.ensures.answer c.in-Value.is;
-      count_read = value_told c.read_field-size.ensures.answer c.in-Value-size.is;
-    } in
-    sym (c.loop-more.invariant.1 _ (rules_over _ _ c.loop-more.more (c.loop-more.more - 1) _ _ _ _ _ _ (omega arith) head_read c.if-sum-m-gt-NODES.true))
+pub returns-then-sum-size-gt-NODES : goal.returns-then-sum-size-gt-NODES
+returns-then-sum-size-gt-NODES c =
+    let some : c.args.count - c.loop.counter ≡ suc (c.args.count - (c.loop.counter + 1)) = omega arith in
+    sym (c.loop.invariant.1 _ (rules_over _ _ _ _ _ _ _ _ _ _ some (head_read (goal.at.returns-then-sum-size-gt-NODES c).In_ok-size) c.if-sum-size-gt-NODES.true))
 
-pub check_nodes-nodes-requires : goal.check_nodes-nodes-requires
-check_nodes-nodes-requires c =
-    let head_read : HeadRead c.args.book.now c.loop-more.place
-    c.in-Value.field-0 c.in-Value.at_count c.in-Value-size.m c.in-Value-size.first = record {
-      kind_read = value_told c.read_field-kind.ensures.answer c.in-Value.is;
-      count_read = value_told c.read_field-size.ensures.answer c.in-Value-size.is;
-    } in
-    let count_fits : c.in-Value-size.m ≤ nodes = (field_read _ _ _ _ _ _ head_read.count_read).high in
-    omega (arith, count_fits)
+pub returns-in_err-next : goal.returns-in_err-next
+returns-in_err-next c =
+    let told = err_from_is_err_and c.from_residual-in_err-next.result c.from_residual-in_err-next.ensures.1 in
+    let some : c.args.count - c.loop.counter ≡ suc (c.args.count - (c.loop.counter + 1)) = omega arith in
+    rw (told.1, told.2) (sym (c.loop.invariant.1 _
+    (rules_nodes_refused _ _ _ _ _ _ _ _ _ _ _ some (head_read (goal.at.returns-in_err-next c).In_ok-size) c.if-sum-size-gt-NODES.false (sym c.in_err-next.ensures))))
 
-pub returns-in_default-nodes : goal.returns-in_default-nodes
-returns-in_default-nodes c =
-    let head_read : HeadRead c.args.book.now c.loop-more.place
-    c.in-Value.field-0 c.in-Value.at_count c.in-Value-size.m c.in-Value-size.first = record {
-      kind_read = value_told c.read_field-kind.ensures.answer c.in-Value.is;
-      count_read = value_told c.read_field-size.ensures.answer c.in-Value-size.is;
-    } in
-    let nodes-told : (taken c.check_nodes-nodes.result ≡ counted c.args.book.now c.args.version c.in-Value-size.m 0 c.in-Value-size.first) = c.check_nodes-nodes.ensures in
-    let told = ap taken c.in_default-nodes.is in
-    told ∙ sym (c.loop-more.invariant.1 _ (rules_nodes_refused _ _ c.loop-more.more (c.loop-more.more - 1) _ _ _ _ _ _ _ (omega arith) head_read
-    c.if-sum-m-gt-NODES.false (sym nodes-told ∙ told)))
-
-pub loop-more-preserved : goal.loop-more-preserved
-loop-more-preserved c =
-    let nodes-told : (taken c.check_nodes-nodes.result ≡ counted c.args.book.now c.args.version c.in-Value-size.m 0 c.in-Value-size.first) = c.check_nodes-nodes.ensures in
-    let head_read : HeadRead c.args.book.now c.loop-more.place
-    c.in-Value.field-0 c.in-Value.at_count c.in-Value-size.m c.in-Value-size.first = record {
-      kind_read = value_told c.read_field-kind.ensures.answer c.in-Value.is;
-      count_read = value_told c.read_field-size.ensures.answer c.in-Value-size.is;
-    } in
-    let nodes_read_lem = value_told nodes-told c.in-Value-nodes.is in
-    let some : c.loop-more.more ≡ suc (c.loop-more.more - 1) = omega arith in (
-      c.if-sum-m-gt-NODES.false,
-      λ r e. c.loop-more.invariant.1 r (rules_rest_refused _ _ _ _ _ _ _ _ _ _ _ _ r some head_read c.if-sum-m-gt-NODES.false nodes_read_lem e),
-      λ n all after s e. c.loop-more.invariant.2 _ all after (omega arith)
-          (rules_rest_got _ _ _ _ _ _ _ _ _ _ _ _ n after some head_read c.if-sum-m-gt-NODES.false nodes_read_lem e),
+pub loop-preserved : goal.loop-preserved
+loop-preserved c =
+    let head = head_read (goal.at.loop-preserved c).In_ok-size in
+    let some : c.args.count - c.loop.counter ≡ suc (c.args.count - (c.loop.counter + 1)) = omega arith in (
+      c.if-sum-size-gt-NODES.false,
+      λ r e. c.loop.invariant.1 r (rules_rest_refused _ _ _ _ _ _ _ _ _ _ _ _ r some head c.if-sum-size-gt-NODES.false (sym c.in_ok-next.ensures) e),
+      λ n all after s e. c.loop.invariant.2 _ all after (omega arith)
+          (rules_rest_got _ _ _ _ _ _ _ _ _ _ _ _ n after some head c.if-sum-size-gt-NODES.false (sym c.in_ok-next.ensures) e),
     )
 
 pub returns : goal.returns
-returns c =
-    sym (c.loop-more.invariant.2 0 _ _ (omega arith) (rules_none _ _ _ _ _ (omega arith)))
+returns c = sym (c.loop.invariant.2 0 _ _ (omega arith) (rules_none _ _ _ _ _ (omega arith)))

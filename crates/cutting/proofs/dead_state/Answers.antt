@@ -1,25 +1,18 @@
--- `cutting::dead_state` meets its contract. The loop's invariant: the search from s on finds what the whole search finds.
--- The measure is how many states are left. Assumes nothing.
+-- `cutting::dead_state` meets its contract: a state that is dead is the first, one that is not is passed, and the count is told past the last.
+-- Assumes nothing.
 use native.Mathlib.Omega.{arith}
 use mathlib.Core.Path.{sym, ◌∙◌}
-use Rattle.cutting.specs.DeadLaws.{dead_start, dead_here, dead_past, dead_end}
+use Rattle.cutting.specs.DeadLaws.{dead_here, dead_past, dead_end}
 use Rattle.cutting.proofs.dead_state.Goals as goal
-
-pub loop-s-init : goal.loop-s-init
-loop-s-init c = (omega arith, dead_start _ _ _)
-
-pub is_dead-requires : goal.is_dead-requires
-is_dead-requires c =
-    (omega (arith, c.requires.labelled), omega (arith, c.requires.filled))
 
 pub returns-then-is_dead : goal.returns-then-is_dead
 returns-then-is_dead c =
-    dead_here _ _ _ c.loop-s.s (omega arith) (sym c.is_dead.ensures ∙ c.if-is_dead.true) ∙ c.loop-s.invariant.1
+    dead_here _ _ _ c.loop-s.s (omega arith) (sym c.is_dead.ensures ∙ c.if-is_dead.true) ∙ c.loop-s.invariant
 
 pub loop-s-preserved : goal.loop-s-preserved
 loop-s-preserved c =
-    (omega arith, dead_past _ _ _ c.loop-s.s (omega arith) (sym c.is_dead.ensures ∙ c.if-is_dead.false) ∙ c.loop-s.invariant.1)
+    dead_past _ _ _ c.loop-s.s (omega arith) (sym c.is_dead.ensures ∙ c.if-is_dead.false) ∙ c.loop-s.invariant
 
 pub returns : goal.returns
 returns c =
-    dead_end _ _ _ c.loop-s.s (omega (arith, c.loop-s.invariant.0)) ∙ c.loop-s.invariant.1
+    dead_end _ _ _ c.loop-s.s (omega arith) ∙ c.loop-s.invariant

@@ -1,14 +1,9 @@
 -- `cutting::run_from` meets its contract. The loop's invariant: the bytes from the start up to i stay in the state.
--- The measure is how many bytes are left. Assumes nothing.
-use Prim.Native.Nat.{ℕ, ◌-◌, ◌<◌, ◌≤◌}
+-- Assumes nothing.
+use Prim.Native.Nat.{ℕ, ◌<◌, ◌≤◌}
 use mathlib.Core.Path.{◌≡◌}
-use lib.ListN.{length}
 use Rattle.cutting.specs.Walk.{led}
 use Rattle.cutting.proofs.run_from.Given as goal
 
 abbrev pub invariant-loop-i : goal.invariant-loop-i
-invariant-loop-i l =
-    (l.from ≤ l.i) × (l.i ≤ length l.text) × ((j : ℕ) → l.from ≤ j → j < l.i → led l.targets l.text l.state j ≡ l.state)
-
-abbrev pub decreases-loop-i : goal.decreases-loop-i
-decreases-loop-i l = length l.text - l.i
+invariant-loop-i l = (j : ℕ) → l.from ≤ j → j < l.i → led l.targets l.text l.state j ≡ l.state

@@ -9,13 +9,13 @@ use Rattle.merged.proofs.merge_short.Goals as goal
 pub returns-then-is_nothing : goal.returns-then-is_nothing
 returns-then-is_nothing c =
     let x = found _ _ _ _ c.requires.sides.sound c.requires.sides.left c.node_at-x.ensures in
-    fits_made (none_left c.requires.sides (told_nothing x c.is_nothing.ensures c.if-is_nothing.true) c.beside.ensures)
+    fits_made _ (none_left c.requires.sides (told_nothing x c.is_nothing.ensures c.if-is_nothing.true) c.beside.ensures)
     (beside_short c.requires.sides c.beside.ensures)
 
 pub returns-then-is_nothing-2 : goal.returns-then-is_nothing-2
 returns-then-is_nothing-2 c =
     let y = found _ _ _ _ c.requires.sides.sound c.requires.sides.right c.node_at-y.ensures in
-    fits_made (none_right c.requires.sides (told_nothing y c.is_nothing-2.ensures c.if-is_nothing-2.true) c.beside-then-is_nothing-2.ensures)
+    fits_made _ (none_right c.requires.sides (told_nothing y c.is_nothing-2.ensures c.if-is_nothing-2.true) c.beside-then-is_nothing-2.ensures)
     (beside_short_right c.requires.sides c.beside-then-is_nothing-2.ensures)
 
 pub fit-requires : goal.fit-requires

@@ -3,8 +3,7 @@
 use native.Mathlib.Omega.{arith}
 use mathlib.Core.Path.{◌≡◌, refl, sym, ap, ◌∙◌}
 use Rattle.meaning.specs.Order.{order}
-use Rattle.term.specs.declared.Order.{Order}
-use Rattle.term.specs.declared.Order.TheVariants.{Less, Equal, Greater}
+use Rattle.std.proofs.Common.{Ordering, Less, Equal, Greater}
 use Rattle.term.specs.Cells.{term}
 use Rattle.term.specs.Nodes.{ordering, Found}
 use Rattle.term.specs.CellLaws.{found}
@@ -31,7 +30,7 @@ returns-then-joins c =
     let p : Heads c.args.join c.args.cells.now c.args.a c.head_of-head.result = heads m.sorts m.left x c.head_of-head.ensures in
     let y : Found c.args.cells.now c.args.b c.node_at-y.result = found _ _ _ _ m.right_sound (omega arith) c.node_at-y.ensures in
     let q : Heads c.args.join c.args.cells.now c.args.b c.head_of-rival.result = heads m.sorts m.right y c.head_of-rival.ensures in
-    let compared : (o : Order) → c.compare_terms-order.result ≡ o → order (term c.args.cells.now c.head_of-head.result) (term c.args.cells.now c.head_of-rival.result) ≡ ordering o = λ o e. sym c.compare_terms-order.ensures ∙ ap ordering e in
+    let compared : (o : Ordering) → c.compare_terms-order.result ≡ o → order (term c.args.cells.now c.head_of-head.result) (term c.args.cells.now c.head_of-rival.result) ≡ ordering o = λ o e. sym c.compare_terms-order.ensures ∙ ap ordering e in
     let f = told_joins c.args.join x c.joins.ensures c.if-joins.true refl c.second_of.ensures in
     record {
       told = less_more m p q f
@@ -45,7 +44,7 @@ returns-then-joins-3 c =
     let y : Found c.args.cells.now c.args.b c.node_at-y.result = found _ _ _ _ m.right_sound (omega arith) c.node_at-y.ensures in
     let p : Heads c.args.join c.args.cells.now c.args.a c.head_of-head.result = heads m.sorts m.left x c.head_of-head.ensures in
     let q : Heads c.args.join c.args.cells.now c.args.b c.head_of-rival.result = heads m.sorts m.right y c.head_of-rival.ensures in
-    let compared : (o : Order) → c.compare_terms-order.result ≡ o → order (term c.args.cells.now c.head_of-head.result) (term c.args.cells.now c.head_of-rival.result) ≡ ordering o = λ o e. sym c.compare_terms-order.ensures ∙ ap ordering e in
+    let compared : (o : Ordering) → c.compare_terms-order.result ≡ o → order (term c.args.cells.now c.head_of-head.result) (term c.args.cells.now c.head_of-rival.result) ≡ ordering o = λ o e. sym c.compare_terms-order.ensures ∙ ap ordering e in
     let f = told_joins c.args.join x c.joins-in-Equal.ensures c.if-joins-2.true
     refl c.second_of-then-joins-3.ensures in
     let g = told_joins c.args.join y c.joins-then-joins-2.ensures c.if-joins-3.true refl c.second_of-then-joins-3-2.ensures in
@@ -61,7 +60,7 @@ returns-then-joins-2 c =
     let p : Heads c.args.join c.args.cells.now c.args.a c.head_of-head.result = heads m.sorts m.left x c.head_of-head.ensures in
     let y : Found c.args.cells.now c.args.b c.node_at-y.result = found _ _ _ _ m.right_sound (omega arith) c.node_at-y.ensures in
     let q : Heads c.args.join c.args.cells.now c.args.b c.head_of-rival.result = heads m.sorts m.right y c.head_of-rival.ensures in
-    let compared : (o : Order) → c.compare_terms-order.result ≡ o → order (term c.args.cells.now c.head_of-head.result) (term c.args.cells.now c.head_of-rival.result) ≡ ordering o = λ o e. sym c.compare_terms-order.ensures ∙ ap ordering e in
+    let compared : (o : Ordering) → c.compare_terms-order.result ≡ o → order (term c.args.cells.now c.head_of-head.result) (term c.args.cells.now c.head_of-rival.result) ≡ ordering o = λ o e. sym c.compare_terms-order.ensures ∙ ap ordering e in
     let f = told_joins c.args.join x c.joins-in-Equal.ensures c.if-joins-2.true refl refl in
     record {
       told = same_left m p q f (told_single c.args.join y c.joins-then-joins-2.ensures c.if-joins-3.false)
@@ -75,7 +74,7 @@ returns-then-joins-4 c =
     let x : Found c.args.cells.now c.args.a c.node_at-x.result = found _ _ _ _ m.left_sound (omega arith) c.node_at-x.ensures in
     let p : Heads c.args.join c.args.cells.now c.args.a c.head_of-head.result = heads m.sorts m.left x c.head_of-head.ensures in
     let q : Heads c.args.join c.args.cells.now c.args.b c.head_of-rival.result = heads m.sorts m.right y c.head_of-rival.ensures in
-    let compared : (o : Order) → c.compare_terms-order.result ≡ o → order (term c.args.cells.now c.head_of-head.result) (term c.args.cells.now c.head_of-rival.result) ≡ ordering o = λ o e. sym c.compare_terms-order.ensures ∙ ap ordering e in
+    let compared : (o : Ordering) → c.compare_terms-order.result ≡ o → order (term c.args.cells.now c.head_of-head.result) (term c.args.cells.now c.head_of-rival.result) ≡ ordering o = λ o e. sym c.compare_terms-order.ensures ∙ ap ordering e in
     let g = told_joins c.args.join y c.joins-in-Greater.ensures c.if-joins-4.true refl c.second_of-then-joins-4.ensures in
     record {
       told = greater_more m p q g
@@ -89,7 +88,7 @@ returns-else-joins c =
     let p : Heads c.args.join c.args.cells.now c.args.a c.head_of-head.result = heads m.sorts m.left x c.head_of-head.ensures in
     let y : Found c.args.cells.now c.args.b c.node_at-y.result = found _ _ _ _ m.right_sound (omega arith) c.node_at-y.ensures in
     let q : Heads c.args.join c.args.cells.now c.args.b c.head_of-rival.result = heads m.sorts m.right y c.head_of-rival.ensures in
-    let compared : (o : Order) → c.compare_terms-order.result ≡ o → order (term c.args.cells.now c.head_of-head.result) (term c.args.cells.now c.head_of-rival.result) ≡ ordering o = λ o e. sym c.compare_terms-order.ensures ∙ ap ordering e in
+    let compared : (o : Ordering) → c.compare_terms-order.result ≡ o → order (term c.args.cells.now c.head_of-head.result) (term c.args.cells.now c.head_of-rival.result) ≡ ordering o = λ o e. sym c.compare_terms-order.ensures ∙ ap ordering e in
     record {
       told = less_one m p q (told_single c.args.join x c.joins.ensures c.if-joins.false)
           (compared Less c.in-Less.is);
@@ -102,7 +101,7 @@ returns-else-joins-2 c =
     let p : Heads c.args.join c.args.cells.now c.args.a c.head_of-head.result = heads m.sorts m.left x c.head_of-head.ensures in
     let y : Found c.args.cells.now c.args.b c.node_at-y.result = found _ _ _ _ m.right_sound (omega arith) c.node_at-y.ensures in
     let q : Heads c.args.join c.args.cells.now c.args.b c.head_of-rival.result = heads m.sorts m.right y c.head_of-rival.ensures in
-    let compared : (o : Order) → c.compare_terms-order.result ≡ o → order (term c.args.cells.now c.head_of-head.result) (term c.args.cells.now c.head_of-rival.result) ≡ ordering o = λ o e. sym c.compare_terms-order.ensures ∙ ap ordering e in
+    let compared : (o : Ordering) → c.compare_terms-order.result ≡ o → order (term c.args.cells.now c.head_of-head.result) (term c.args.cells.now c.head_of-rival.result) ≡ ordering o = λ o e. sym c.compare_terms-order.ensures ∙ ap ordering e in
     record {
       told = same_one m p q (told_single c.args.join x c.joins-in-Equal.ensures c.if-joins-2.false)
           (compared Equal c.in-Equal.is);
@@ -115,7 +114,7 @@ returns-else-joins-4 c =
     let p : Heads c.args.join c.args.cells.now c.args.a c.head_of-head.result = heads m.sorts m.left x c.head_of-head.ensures in
     let y : Found c.args.cells.now c.args.b c.node_at-y.result = found _ _ _ _ m.right_sound (omega arith) c.node_at-y.ensures in
     let q : Heads c.args.join c.args.cells.now c.args.b c.head_of-rival.result = heads m.sorts m.right y c.head_of-rival.ensures in
-    let compared : (o : Order) → c.compare_terms-order.result ≡ o → order (term c.args.cells.now c.head_of-head.result) (term c.args.cells.now c.head_of-rival.result) ≡ ordering o = λ o e. sym c.compare_terms-order.ensures ∙ ap ordering e in
+    let compared : (o : Ordering) → c.compare_terms-order.result ≡ o → order (term c.args.cells.now c.head_of-head.result) (term c.args.cells.now c.head_of-rival.result) ≡ ordering o = λ o e. sym c.compare_terms-order.ensures ∙ ap ordering e in
     record {
       told = greater_one m p q (told_single c.args.join y c.joins-in-Greater.ensures c.if-joins-4.false)
           (compared Greater c.in-Greater.is);

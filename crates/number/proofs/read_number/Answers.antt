@@ -20,23 +20,23 @@ pub returns-then-bytes-at : goal.returns-then-bytes-at
 returns-then-bytes-at c = by_way refl (none c.if-bytes-at.true)
 
 pub returns-then-a-lt-GROUP : goal.returns-then-a-lt-GROUP
-returns-then-a-lt-GROUP c = by_way refl (one _ (omega arith) c.wide-a.ensures c.if-a-lt-GROUP.true)
+returns-then-a-lt-GROUP c = by_way refl (one _ (omega arith) refl c.if-a-lt-GROUP.true)
 
 pub returns-then-bytes-at-le1 : goal.returns-then-bytes-at-le1
-returns-then-bytes-at-le1 c = by_way refl (half _ (omega arith) c.wide-a.ensures (omega arith) (omega arith))
+returns-then-bytes-at-le1 c = by_way refl (half _ (omega arith) refl (omega arith) (omega arith))
 
 pub returns-then-b-lt-GROUP : goal.returns-then-b-lt-GROUP
 returns-then-b-lt-GROUP c =
-    by_way c.shortest-taken.ensures (two _ _ (omega arith) c.wide-a.ensures c.wide-b.ensures (omega arith) (omega arith))
+    by_way c.shortest-taken.ensures (two _ _ (omega arith) refl refl (omega arith) (omega arith))
 
 pub returns-then-bytes-at-le2 : goal.returns-then-bytes-at-le2
 returns-then-bytes-at-le2 c =
-    by_way refl (most _ _ (omega arith) c.wide-a.ensures c.wide-b.ensures (omega arith) (omega arith) (omega arith))
+    by_way refl (most _ _ (omega arith) refl refl (omega arith) (omega arith) (omega arith))
 
 pub returns-then-c-lt-GROUP : goal.returns-then-c-lt-GROUP
 returns-then-c-lt-GROUP c =
-    by_way c.shortest-taken-then-c-lt-GROUP.ensures (three _ _ _ (omega arith) c.wide-a.ensures c.wide-b.ensures c.wide-c.ensures (omega arith) (omega arith) (omega arith))
+    by_way c.shortest-taken-then-c-lt-GROUP.ensures (three _ _ _ (omega arith) refl refl refl (omega arith) (omega arith) (omega arith))
 
 pub returns : goal.returns
 returns c =
-    by_way refl (over _ _ _ (omega arith) c.wide-a.ensures c.wide-b.ensures c.wide-c.ensures (omega arith) (omega arith) c.if-c-lt-GROUP.false)
+    by_way refl (over _ _ _ (omega arith) refl refl refl (omega arith) (omega arith) c.if-c-lt-GROUP.false)

@@ -3,6 +3,7 @@
 use native.Mathlib.Omega.{arith}
 use mathlib.Core.Path.{refl}
 use borrow.Author.Rules.{rules}
+use Rattle.std.proofs.lemmas.Result.{err_from_is_err_and}
 use Rattle.row.specs.FillLaws.{filling_first, filling_within, filling_reads, filling_ready, filling_stop, filling_small, filling_more, filling_end, edge_on, edge_most}
 use Rattle.steps.specs.CallLaws.{followed}
 use Rattle.row.proofs.fill_row.Goals as goal
@@ -20,29 +21,30 @@ pub edge_of-edge-requires : goal.edge_of-edge-requires
 edge_of-edge-requires c =
     record { reads_short = filling_reads c.loop-byte.invariant.2 c.requires.i_lt_count c.loop-byte-test.true c.load.ensures; byte_le_last_byte = omega (arith, c.loop-byte-test.true) }
 
-pub step-made-requires : goal.step-made-requires
-step-made-requires c =
+pub step-requires : goal.step-requires
+step-requires c =
     record { ready = filling_ready c.loop-byte.invariant.2 c.requires.i_lt_count c.loop-byte-test.true; indexed = c.loop-byte.invariant.4 }
 
-pub shape_of-index-in_default : goal.shape_of-index-in_default
-shape_of-index-in_default c = omega (arith, c.loop-byte.invariant.3)
+pub shape_of-index-in_err-made : goal.shape_of-index-in_err-made
+shape_of-index-in_err-made c = omega (arith, c.loop-byte.invariant.3)
 
-pub shape_of-cells-in_default : goal.shape_of-cells-in_default
-shape_of-cells-in_default c = omega (arith, c.loop-byte.invariant.0, c.step-made.ensures.steps.same_length)
+pub shape_of-cells-in_err-made : goal.shape_of-cells-in_err-made
+shape_of-cells-in_err-made c = omega (arith, c.loop-byte.invariant.0, c.step.ensures.steps.same_length)
 
-pub shape_of-targets-in_default : goal.shape_of-targets-in_default
-shape_of-targets-in_default c = omega (arith, c.loop-byte.invariant.1)
+pub shape_of-targets-in_err-made : goal.shape_of-targets-in_err-made
+shape_of-targets-in_err-made c = omega (arith, c.loop-byte.invariant.1)
 
-pub returns-in_default : goal.returns-in_default
-returns-in_default c =
-    record {
+pub returns-in_err-made : goal.returns-in_err-made
+returns-in_err-made c =
+    let told = err_from_is_err_and c.from_residual.result c.from_residual.ensures.1 in
+    rw (told.1, told.2) (record {
       row_filled = record {
         comes =
             filling_stop c.loop-byte.invariant.2 c.requires.i_lt_count c.loop-byte-test.true c.load.ensures c.edge_of-edge.ensures
-            c.step-made.ensures.steps _ c.in_default.is;
+            c.step.ensures.steps c.loop-byte.targets c.in_err-made.was;
       };
-      follows = c.step-made.ensures.follows;
-    }
+      follows = tt;
+    })
 
 pub overflow_add-base : goal.overflow_add-base
 overflow_add-base c = omega (arith, c.requires.fillable.few, c.requires.i_lt_count, c.loop-byte-test.true)
@@ -52,11 +54,11 @@ overflow_add-base-in-loop-byte c =
     let most = edge_most c.loop-byte.invariant.2 c.requires.i_lt_count c.loop-byte-test.true c.load.ensures c.edge_of-edge.ensures in
     omega (arith, c.requires.fillable.few, c.requires.i_lt_count)
 
-pub overflow_cast-number : goal.overflow_cast-number
-overflow_cast-number c =
+pub overflow_cast-made : goal.overflow_cast-made
+overflow_cast-made c =
     let small =
     filling_small c.loop-byte.invariant.2 c.requires.i_lt_count c.loop-byte-test.true c.load.ensures c.edge_of-edge.ensures
-    c.step-made.ensures.steps c.in-Reached.is in
+    c.step.ensures.steps c.in_ok-made.was in
     omega arith
 
 pub fill-requires : goal.fill-requires
@@ -73,12 +75,12 @@ loop-byte-smaller c =
 
 pub loop-byte-preserved : goal.loop-byte-preserved
 loop-byte-preserved c = (
-  omega (arith, c.loop-byte.invariant.0, c.step-made.ensures.steps.same_length),
+  omega (arith, c.loop-byte.invariant.0, c.step.ensures.steps.same_length),
   search rules,
   filling_more c.loop-byte.invariant.2 c.requires.i_lt_count c.loop-byte-test.true c.load.ensures c.edge_of-edge.ensures
-      c.step-made.ensures.steps c.in-Reached.is c.requires.fillable.room c.fill.ensures,
+      c.step.ensures.steps c.in_ok-made.was c.requires.fillable.room c.fill.ensures,
   search rules,
-  followed c.step-made.ensures.follows c.in-Reached.is,
+  followed c.step.ensures.follows c.in_ok-made.was,
 )
 
 pub shape_of-index : goal.shape_of-index
@@ -92,4 +94,4 @@ shape_of-targets c = omega (arith, c.loop-byte.invariant.1)
 
 pub returns : goal.returns
 returns c =
-    record { row_filled = record { comes = filling_end c.loop-byte.invariant.2 0 c.loop-byte-test.false }; follows = c.loop-byte.invariant.4 }
+    record { row_filled = record { comes = filling_end c.loop-byte.invariant.2 c.loop-byte-test.false }; follows = c.loop-byte.invariant.4 }

@@ -15,9 +15,9 @@ abbrev pub invariant-loop-byte : goal.invariant-loop-byte
 invariant-loop-byte l =
     (length l.cells ≡ length l.initial.cells)
     × (length l.targets ≡ length l.initial.targets)
-    × Filling l.count (row alone l.i bytes 0 (held_of l.initial.cells l.n l.top l.count)) l.initial.targets l.i l.cells l.n l.next l.held l.byte l.targets
+    × Filling l.fn.held.count (row alone l.i bytes 0 (held_of l.initial.cells l.n l.fn.held.top l.fn.held.count)) l.initial.targets l.i l.cells l.n l.next.top l.next.count l.byte l.targets
     × (length l.index ≡ length l.initial.index)
-    × Indexed l.index l.cells l.next
+    × Indexed l.index l.cells l.next.top
 
 abbrev pub decreases-loop-byte : goal.decreases-loop-byte
 decreases-loop-byte l = bytes - l.byte

@@ -6,7 +6,7 @@ use Rattle.meaning.specs.Order.{order}
 use Rattle.term.specs.Cells.{term}
 use Rattle.term.specs.Nodes.{ordering}
 use Rattle.term.specs.Compares.{Only, Both}
-use Rattle.term.specs.CompareLaws.{told, told_one, told_two, comparing_first, nodes_asked, few_wait, told_last, told_apart, last_inside, last_held, last_less, last_next, one_next, two_fit, two_less, two_next}
+use Rattle.term.specs.CompareLaws.{ordering_decides, told, told_one, told_two, comparing_first, nodes_asked, few_wait, told_last, told_apart, last_inside, last_held, last_less, last_next, one_next, two_fit, two_less, two_next}
 use Rattle.term.proofs.compare_parts.Goals as goal
 
 pub loop-order-init : goal.loop-order-init
@@ -22,10 +22,10 @@ returns-then-waiting-eq0 c =
     let pair-told : ordering c.in-Told.order ≡ order (term c.args.cells.now c.loop-order.a) (term c.args.cells.now c.loop-order.b) = told c.compare_nodes-glance.ensures c.in-Told.is in
     told_last c.loop-order.invariant pair-told c.if-waiting-eq0.true
 
-pub returns-then-differs : goal.returns-then-differs
-returns-then-differs c =
+pub returns-then-is_ne : goal.returns-then-is_ne
+returns-then-is_ne c =
     let pair-told : ordering c.in-Told.order ≡ order (term c.args.cells.now c.loop-order.a) (term c.args.cells.now c.loop-order.b) = told c.compare_nodes-glance.ensures c.in-Told.is in
-    told_apart c.loop-order.invariant pair-told (sym c.differs.ensures ∙ c.if-differs.true)
+    told_apart c.loop-order.invariant pair-told (sym (c.is_ne.ensures ∙ ordering_decides c.in-Told.order) ∙ c.if-is_ne.true)
 
 pub bounds-left-waiting : goal.bounds-left-waiting
 bounds-left-waiting c = last_inside c.loop-order.invariant c.if-waiting-eq0.false
@@ -50,7 +50,7 @@ pub loop-order-preserved-in-Told : goal.loop-order-preserved-in-Told
 loop-order-preserved-in-Told c =
     let pair-told : ordering c.in-Told.order ≡ order (term c.args.cells.now c.loop-order.a) (term c.args.cells.now c.loop-order.b) = told c.compare_nodes-glance.ensures c.in-Told.is in
     last_next c.loop-order.invariant c.if-waiting-eq0.false pair-told
-    (sym c.differs.ensures ∙ c.if-differs.false)
+    (sym (c.is_ne.ensures ∙ ordering_decides c.in-Told.order) ∙ c.if-is_ne.false)
 
 pub loop-order-smaller-in-One : goal.loop-order-smaller-in-One
 loop-order-smaller-in-One c =

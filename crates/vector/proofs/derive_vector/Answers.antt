@@ -5,7 +5,6 @@ use mathlib.Core.Path.{◌≡◌, refl}
 use borrow.Author.Rules.{rules as steps}
 use lib.ListN.{length-replicate, get_or-replicate, replicate}
 use Rattle.number.specs.Limits.{rules}
-use Rattle.meaning.specs.Tests.{clash}
 use Rattle.normal.specs.AnswerLaws.{got}
 use Rattle.vector.specs.Layout.{nothing_cell}
 use Rattle.vector.specs.DeriveLaws.{going_first, place_derives, place_spared, place_long, place_puts, place_more}
@@ -26,9 +25,9 @@ pub returns-in_default : goal.returns-in_default
 returns-in_default c =
     record {
       spared = place_spared c.requires c.loop-i.invariant.1 (omega arith) c.derive.ensures c.in_default.is;
-      too_long = λ _. place_long c.requires c.loop-i.invariant.1 (omega arith) c.derive.ensures c.in_default.is;
-      done = λ e. absurd (clash refl e);
-      indexed = λ e. absurd (clash refl e);
+      too_long = place_long c.requires c.loop-i.invariant.1 (omega arith) c.derive.ensures c.in_default.is;
+      done = tt;
+      indexed = tt;
     }
 
 pub put_term-placed-requires : goal.put_term-placed-requires
@@ -48,7 +47,7 @@ returns c =
     let e : c.loop-i.i ≡ c.args.n = omega (arith, c.loop-i.invariant.1.within) in
     record {
       spared = c.loop-i.invariant.1.spared;
-      too_long = λ e. absurd (clash e refl);
-      done = λ _. rw e at c.loop-i.invariant.1.done;
-      indexed = λ _. c.loop-i.invariant.1.indexed;
+      too_long = tt;
+      done = rw e at c.loop-i.invariant.1.done;
+      indexed = c.loop-i.invariant.1.indexed;
     }

@@ -1,14 +1,9 @@
 -- `derive_vector` derives a vector place by place: so far the first places are done, in a pool that holds their terms.
 -- A place that is too long ends it; past the last rule the whole vector is done.
-use Prim.Native.Nat.{◌-◌}
-use mathlib.Core.Path.{◌≡◌}
-use lib.ListN.{length}
+use Rattle.std.proofs.Common.{◌≡◌, length}
 use Rattle.vector.specs.DeriveLaws.{Going}
 use Rattle.vector.proofs.derive_vector.Given as goal
 
 abbrev pub invariant-loop-i : goal.invariant-loop-i
 invariant-loop-i l =
-    (length l.index ≡ length l.initial.index) × Going l.initial.cells l.top l.n l.from l.byte l.index l.cells l.next l.to l.i
-
-abbrev pub decreases-loop-i : goal.decreases-loop-i
-decreases-loop-i l = l.n - l.i
+    (length l.index ≡ length l.initial.index) × Going l.initial.cells l.top l.n l.v.at l.byte l.index l.cells l.next l.at l.i
