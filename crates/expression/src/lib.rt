@@ -4,17 +4,29 @@
 
 ghost use Rattle.std.specs.Prelude.{◌≤◌, ◌≡◌, length};
 ghost use Rattle.number.specs.Limits.{nodes};
+ghost use Rattle.number.specs.declared.Refusal.{Refusal};
+ghost use Rattle.number.specs.declared.Refusal.TheVariants.{Typed};
+ghost use Rattle.expression.specs.declared.Wrong.{Wrong};
 ghost use Rattle.expression.specs.Reads.{Any, Breaks, Ends, AtomRead, SequenceRead, ChoiceRead};
 ghost use Rattle.expression.specs.Steps.{LeafRead, EscapeRead, NameRead, MarksRead};
 
 use laid::{ALT, CAT, EMPTY};
 use names::{Naming, byte_at};
+use number::Refusal;
 use number::limits::LAST_BYTE;
 
 // The place of the wrong byte.
 #[derive(Clone, Copy, PartialEq, Eq)]
 pub struct Wrong {
     pub at: usize,
+}
+
+impl From<Wrong> for Refusal {
+    ghost from_gives = { λ (wrong : Wrong) (r : Refusal). r ≡ Typed wrong.at };
+
+    fn from(wrong: Wrong) -> Refusal {
+        Refusal::Typed(wrong.at)
+    }
 }
 
 // The two hex digits of an escape.
