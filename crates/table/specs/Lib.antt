@@ -13,3 +13,4 @@ pub mod SheetRuns
 pub mod SheetLaws
 pub mod TableLaws
 pub mod FillLaws
+pub mod RunLaws

@@ -1,56 +1,59 @@
 -- Laws of a well formed table, one for each return of the code that tests one.
--- The code goes over cells from the front and keeps the largest; what is left to test is a slice of the list.
-use Rattle.std.specs.Prelude.{ℕ, ◌+◌, ◌*◌, ◌≤◌, ◌<◌, ◌≡◌, refl, Bool, true, false, ◌&&◌, List, ◌∷◌, leb, ltb, length, get_or, take}
-use Rattle.std.proofs.Common.{add-one, arith, sym, ap, length-take}
+-- Of cells only the largest is tested.
+use Rattle.std.specs.Prelude.{ℕ, ◌+◌, ◌*◌, ◌≤◌, ◌<◌, ◌≡◌, refl, None, Some, Bool, true, false, ◌&&◌, List, [], ◌∷◌, leb, ltb, max, fold, length, take}
+use Rattle.std.specs.List.{reduce}
+use Rattle.std.proofs.Common.{arith, sym, ap, ◌∙◌, length-take}
+use Rattle.std.proofs.Math.Nat.{max-eq_left, max-eq_right}
+use native.Mathlib.Decide.{dec_le}
 use borrow.Author.Tests.{ltb-true, ltb-false, lt-ltb, le-ltb, le-leb, lt-leb}
 use Rattle.std.proofs.Math.Dec.{leb-suc-suc}
-use Rattle.std.proofs.Math.Seq.{slice, slice-cons, slice_empty}
 use Rattle.number.specs.Limits.{rules, states, bytes}
 use Rattle.table.specs.Table.{all, well_formed}
 use Rattle.table.specs.SheetFormed.{well_formed_lem}
 
 -- ---- each number of a list is below a limit
 
-all_cons : (test : ℕ → Bool) (x : ℕ) (xs : List ℕ) → all test (x ∷ xs) ≡ test x && all test xs
-unfolding all
-all_cons test x xs = refl
-
 -- of two numbers the larger is tested for both
-pub second_larger : (a b limit : ℕ) (rest : Bool) → a ≤ b → ltb a limit && (ltb b limit && rest) ≡ ltb b limit && rest
+second_larger : (a b limit : ℕ) (rest : Bool) → a ≤ b → ltb a limit && (ltb b limit && rest) ≡ ltb b limit && rest
 second_larger a b limit rest h = go (ltb a limit) refl
   where
     go : (t : Bool) → ltb a limit ≡ t → t && (ltb b limit && rest) ≡ ltb b limit && rest
     go true e = refl
     go false e = simp (le-ltb b limit (omega (arith, ltb-false a limit e)))
 
-pub first_larger : (a b limit : ℕ) (rest : Bool) → b ≤ a → ltb a limit && (ltb b limit && rest) ≡ ltb a limit && rest
+first_larger : (a b limit : ℕ) (rest : Bool) → b ≤ a → ltb a limit && (ltb b limit && rest) ≡ ltb a limit && rest
 first_larger a b limit rest h = go (ltb a limit) refl
   where
     go : (t : Bool) → ltb a limit ≡ t → t && (ltb b limit && rest) ≡ t && rest
     go true e = simp (lt-ltb b limit (omega (arith, ltb-true a limit e)))
     go false e = refl
 
-module _ (limit : ℕ) (cells : List ℕ) where
-  pub below_next : (i end : ℕ) → i < end → end ≤ length cells
-      → all (λ (x : ℕ). ltb x limit) (slice i end cells) ≡ ltb (get_or cells i 0) limit && all (λ (x : ℕ). ltb x limit) (slice (i + 1) end cells)
-  below_next i end h k = rw (add-one, slice-cons i end cells 0 h k, all_cons) refl
+larger : (a b limit : ℕ) (rest : Bool) → ltb (max a b) limit && rest ≡ ltb a limit && (ltb b limit && rest)
+larger a b limit rest =
+    elim (dec_le a b) [
+      | yes h ↦ rw (max-eq_right h) (sym (second_larger a b limit rest h))
+      | no n ↦ let h : b ≤ a = omega arith in rw (max-eq_left h) (sym (first_larger a b limit rest h))
+    ]
 
-  pub below_over : (i end : ℕ) → i ≡ end → all (λ (x : ℕ). ltb x limit) (slice i end cells) ≡ true
-  unfolding all
-  below_over i end e = rw (e, slice_empty)
+below_fold : (limit a : ℕ) (xs : List ℕ) → ltb (fold max a xs) limit ≡ ltb a limit && all (λ (x : ℕ). ltb x limit) xs
+unfolding all
+below_fold limit a [] = go (ltb a limit)
+  where
+    go : (t : Bool) → t ≡ t && true
+    go true = refl
+    go false = refl
+below_fold limit a (x ∷ xs) = below_fold limit (max a x) xs ∙ larger a x limit (all (λ (x : ℕ). ltb x limit) xs)
 
-  -- where there is a cell, 0 may be tested with the others
-  pub below_some : (end : ℕ) → 0 < end → end ≤ length cells
-      → all (λ (x : ℕ). ltb x limit) (take end cells) ≡ ltb 0 limit && all (λ (x : ℕ). ltb x limit) (slice 0 end cells)
-  below_some end h k = rw (below_next 0 end h k) (sym (second_larger 0 (get_or cells 0 0) limit _ (omega arith)))
+-- so the largest of a list is tested for all of it
+pub below_none : (limit : ℕ) (xs : List ℕ) → None ≡ reduce max xs → true ≡ all (λ (x : ℕ). ltb x limit) xs
+unfolding all
+below_none limit [] e = refl
+below_none limit (x ∷ xs) e = absurd (let z : ◌≡◌ {A = ℕ} 0 1 = cc in omega arith)
 
-  -- the largest number so far is tested for all before i
-  pub below_all : (most i end : ℕ) → i ≡ end → ltb most limit && all (λ (x : ℕ). ltb x limit) (slice i end cells) ≡ ltb most limit
-  below_all most i end e = rw (below_over i end e) (go (ltb most limit))
-    where
-      go : (t : Bool) → t && true ≡ t
-      go true = refl
-      go false = refl
+pub below_most : (limit most : ℕ) (xs : List ℕ) → Some most ≡ reduce max xs → ltb most limit ≡ all (λ (x : ℕ). ltb x limit) xs
+unfolding all
+below_most limit most [] e = absurd (let z : ◌≡◌ {A = ℕ} 0 1 = cc in omega arith)
+below_most limit most (x ∷ xs) e = let is : most ≡ fold max x xs = cc in rw is (below_fold limit x xs)
 
 -- ---- the six tests of a well formed table, in their order
 
