@@ -6,33 +6,11 @@ use Rattle.number.specs.declared.Refusal.{Refusal}
 use Rattle.number.specs.Refused.{Answer, Outcome}
 use Rattle.number.specs.Refused.Answer.{got, refused}
 use Rattle.number.specs.Refused.Outcome.{gives, refuses}
-use Rattle.number.specs.Numbers.{taken}
 use Rattle.number.specs.Reading.{Reader, onward, refuse_if, map_answer}
-use Rattle.book.specs.declared.Node.{Node}
-use Rattle.book.specs.declared.RulePlace.{RulePlace}
 use Rattle.book.specs.Calls.{Size, checked}
 use Rattle.book.specs.ReadLawsSteps.{clash}
-use Rattle.book.specs.Answers.{node_read, place_read}
 
 -- ---- answers of the code, told as the paper's
-
-pub value_told : {x : Answer ℕ} {t : Result (ℕ × ℕ) Refusal} {n next : ℕ} → taken t ≡ x → t ≡ Ok (n, next) → x ≡ got n next
-value_told h e = sym h ∙ ap taken e
-
-pub refusal_given : {x : Answer ℕ} {t : Result (ℕ × ℕ) Refusal} {r : Refusal} → taken t ≡ x → t ≡ Err r → x ≡ refused r
-refusal_given h e = sym h ∙ ap taken e
-
-pub node_told : {x : Answer Node} {t : Result (Node × ℕ) Refusal} {n : Node} {next : ℕ} → node_read t ≡ x → t ≡ Ok (n, next) → x ≡ got n next
-node_told h e = sym h ∙ ap node_read e
-
-pub node_refusal_given : {x : Answer Node} {t : Result (Node × ℕ) Refusal} {r : Refusal} → node_read t ≡ x → t ≡ Err r → x ≡ refused r
-node_refusal_given h e = sym h ∙ ap node_read e
-
-pub place_told : {x : Answer RulePlace} {t : Result RulePlace Refusal} {p : RulePlace} → place_read t ≡ x → t ≡ Ok p → x ≡ got p p.at
-place_told h e = sym h ∙ ap place_read e
-
-pub place_refusal_told : {x : Answer RulePlace} {t : Result RulePlace Refusal} {q : Refusal} → place_read t ≡ x → t ≡ Err q → x ≡ refused q
-place_refusal_told h e = sym h ∙ ap place_read e
 
 pub counts_told : {x : Outcome Size} {t : Result (ℕ × ℕ) Refusal} {n sum : ℕ} → checked t ≡ x → t ≡ Ok (n, sum)
     → x ≡ gives (record { rules = n; nodes = sum })

@@ -1,122 +1,27 @@
--- The readers of a book, return by return, as the code meets them: the code's proofs cite one law a return.
+-- The nodes of a rule, the rules of a book and a whole book, return by return, as the code meets them: the code's proofs cite one law a return.
 -- Also how many nodes and rules such a reading got, wherever it began; ReadLaws tells more of a book that was read whole.
 use Prim.Native.Nat.{ℕ, zero, suc, ◌+◌, ◌-◌, ◌<◌, ◌≤◌}
 use native.Mathlib.Omega.{arith}
-use Rattle.std.specs.Prelude.{◌≡◌, true, false, not, List, ◌∷◌, ltb, eqb}
+use Rattle.std.specs.Prelude.{◌≡◌, not, List, ◌∷◌, ltb, eqb}
 use Rattle.std.proofs.Math.Path.{refl, sym, ap}
 use Rattle.std.proofs.Common.{◌∙◌}
 use borrow.Author.Tests.{lt-ltb, le-ltb, eq-eqb, ne_eqb, ltb-false}
 use Rattle.std.proofs.Math.ListN.{length}
-use Rattle.number.specs.Limits.{first_version, last_version, rules, kinds, nodes, last_byte, first_letter, last_letter}
-use Rattle.number.specs.Limits.{code_nothing, code_empty, code_range, code_cat, code_alt, code_star, code_either, code_and, code_not}
+use Rattle.number.specs.Limits.{first_version, last_version, rules, kinds, nodes}
 use Rattle.number.specs.declared.Refusal.{Refusal}
 use Rattle.number.specs.declared.Refusal.TheVariants.{Range as OutOfRange, Stack, Tail}
 use Rattle.number.specs.Refused.{Answer}
 use Rattle.number.specs.Refused.Answer.{got, refused}
 use Rattle.number.specs.Refused.Outcome.{gives}
-use Rattle.number.specs.Numbers.{read_number, field}
+use Rattle.number.specs.Numbers.{field}
 use Rattle.number.specs.Reading.{onward, end, map_answer}
 use Rattle.book.specs.declared.Node.{Node}
-use Rattle.book.specs.declared.Node.TheVariants.{Nothing, Empty, Range, Cat, Alt, Star, Either, And, Not}
-use Rattle.book.specs.Book.{Rule, allowed, takes, total}
-use Rattle.book.specs.Reads.{read_range, read_either, read_after, read_node, more_nodes, more_rules, book, read_book}
+use Rattle.book.specs.Book.{Rule, takes, total}
+use Rattle.book.specs.Reads.{read_node, more_nodes, more_rules, book, read_book}
 use Rattle.book.specs.Calls.{size_of}
 use Rattle.book.specs.AnswerLaws.{same_thing, same_place, got_is, made_of, refused_of, went, passed}
 
 module _ (file : List ℕ) where
-  -- ---- a node
-
-  pub range_lo_refused : (at : ℕ) (r : Refusal) → field file 0 last_byte at ≡ refused r → read_range file at ≡ refused r
-  unfolding read_range
-  range_lo_refused at r e = rw e
-
-  pub range_hi_refused : (at lo next : ℕ) (r : Refusal) → field file 0 last_byte at ≡ got lo next
-      → field file lo last_byte next ≡ refused r → read_range file at ≡ refused r
-  unfolding read_range
-  range_hi_refused at lo next r e f = simp (e, f)
-
-  pub range_got : (at lo next hi after : ℕ) → field file 0 last_byte at ≡ got lo next
-      → field file lo last_byte next ≡ got hi after → read_range file at ≡ got (Range lo hi) after
-  unfolding read_range
-  range_got at lo next hi after e f = simp (e, f)
-
-  pub either_refused : (at : ℕ) (r : Refusal) → field file first_letter last_letter at ≡ refused r → read_either file at ≡ refused r
-  unfolding read_either
-  either_refused at r e = rw e
-
-  pub either_got : (at x after : ℕ) → field file first_letter last_letter at ≡ got x after → read_either file at ≡ got (Either x) after
-  unfolding read_either
-  either_got at x after e = rw e
-
-  -- what stands after a number that is no code of version v, and after each of its codes
-  module _ (v start code at : ℕ) where
-    pub after_lacking : allowed v code ≡ false → read_after file v start code at ≡ refused (OutOfRange start)
-    unfolding read_after
-    after_lacking e = rw e
-
-    module _ (known : allowed v code ≡ true) where
-      pub after_nothing : code ≡ code_nothing → read_after file v start code at ≡ got Nothing at
-      unfolding read_after
-      after_nothing e = rw (known, e)
-
-      pub after_empty : code ≡ code_empty → read_after file v start code at ≡ got Empty at
-      unfolding read_after
-      after_empty e = rw (known, e)
-
-      pub after_range : code ≡ code_range → read_after file v start code at ≡ read_range file at
-      unfolding read_after
-      after_range e = rw (known, e)
-
-      pub after_cat : code ≡ code_cat → read_after file v start code at ≡ got Cat at
-      unfolding read_after
-      after_cat e = rw (known, e)
-
-      pub after_alt : code ≡ code_alt → read_after file v start code at ≡ got Alt at
-      unfolding read_after
-      after_alt e = rw (known, e)
-
-      pub after_star : code ≡ code_star → read_after file v start code at ≡ got Star at
-      unfolding read_after
-      after_star e = rw (known, e)
-
-      pub after_either : code ≡ code_either → read_after file v start code at ≡ read_either file at
-      unfolding read_after
-      after_either e = rw (known, e)
-
-      pub after_and : code ≡ code_and → read_after file v start code at ≡ got And at
-      unfolding read_after
-      after_and e = rw (known, e)
-
-      pub after_not : code ≡ code_not → read_after file v start code at ≡ got Not at
-      unfolding read_after
-      after_not e = rw (known, e)
-
-      pub after_none : (code ≡ code_nothing → ⊥) → (code ≡ code_empty → ⊥) → (code ≡ code_range → ⊥) → (code ≡ code_cat → ⊥)
-          → (code ≡ code_alt → ⊥) → (code ≡ code_star → ⊥) → (code ≡ code_either → ⊥) → (code ≡ code_and → ⊥) → (code ≡ code_not → ⊥)
-          → read_after file v start code at ≡ refused (OutOfRange start)
-      unfolding read_after
-      after_none a b c d e f g h i =
-          rw (
-            known,
-            ne_eqb code _ a,
-            ne_eqb code _ b,
-            ne_eqb code _ c,
-            ne_eqb code _ d,
-            ne_eqb code _ e,
-            ne_eqb code _ f,
-            ne_eqb code _ g,
-            ne_eqb code _ h,
-            ne_eqb code _ i,
-          )
-
-  pub node_refused : (v at : ℕ) (r : Refusal) → read_number file at ≡ refused r → read_node file v at ≡ refused r
-  unfolding read_node
-  node_refused v at r e = rw e
-
-  pub node_got : (v at code next : ℕ) → read_number file at ≡ got code next → read_node file v at ≡ read_after file v at code next
-  unfolding read_node
-  node_got v at code next e = rw e
-
   -- ---- the nodes of a rule, counted
 
   abbrev pub counted : ℕ → ℕ → ℕ → ℕ → Answer ℕ

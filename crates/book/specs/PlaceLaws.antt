@@ -5,7 +5,7 @@ use Rattle.std.proofs.Common.{arith, sym, ◌∙◌, lt-ltb, le-ltb}
 use Rattle.std.specs.Prelude.{◌≡◌, refl, List, Some, None}
 use Rattle.std.proofs.Math.Path.{ap}
 use Rattle.std.proofs.Math.ListN.{length}
-use Rattle.number.specs.Limits.{first_version, last_version, rules, kinds, nodes}
+use Rattle.number.specs.Limits.{kinds, nodes}
 use Rattle.number.specs.declared.Refusal.{Refusal}
 use Rattle.number.specs.Refused.{Answer, Outcome}
 use Rattle.number.specs.Refused.Answer.{got, refused}
@@ -35,15 +35,6 @@ same_given e = cc
 
 module _ (file : List ℕ) where
   -- ---- the way to a rule
-
-  pub head_kind_refused : (v at : ℕ) (r : Refusal) → field file 0 kinds at ≡ refused r → read_head file v at ≡ refused r
-  unfolding read_head
-  head_kind_refused v at r e = rw e
-
-  pub head_count_refused : (v at kind count : ℕ) (r : Refusal) → field file 0 kinds at ≡ got kind count
-      → field file 1 nodes count ≡ refused r → read_head file v at ≡ refused r
-  unfolding read_head
-  head_count_refused v at kind count r e f = simp (e, f)
 
   pub head_got : (v at kind count m first : ℕ) → HeadRead file at kind count m first
       → read_head file v at ≡ got (record { version = v; kind = kind; nodes = m; at = first }) first
@@ -78,15 +69,6 @@ module _ (file : List ℕ) where
   unfolding find_rule
   find_onward v left k at p next size after z e f =
       rw z (simp (e, (made_of length (more_nodes file v p.nodes 0 next) f).read))
-
-  pub from_version_refused : (rule : ℕ) (r : Refusal) → field file first_version last_version 0 ≡ refused r → find_from file rule 0 ≡ refused r
-  unfolding find_from
-  from_version_refused rule r e = rw e
-
-  pub from_count_refused : (rule v count : ℕ) (r : Refusal) → field file first_version last_version 0 ≡ got v count
-      → field file 1 rules count ≡ refused r → find_from file rule 0 ≡ refused r
-  unfolding find_from
-  from_count_refused rule v count r e f = simp (e, f)
 
   pub from_rules : (rule v count n first : ℕ) → BookHead file v count n first → find_from file rule 0 ≡ find_rule file v rule first
   unfolding find_from
@@ -181,16 +163,6 @@ module _ (file : List ℕ) where
       rw (c.read, lt-ltb _ _ within, same)
 
   -- a rule's place
-  pub place_refused : (rule : ℕ) (r : Refusal) → size_of (read_book file) ≡ refuses r → place_of file rule ≡ None
-  place_refused rule r e = rw (checked_refused r e)
-
-  pub place_none : (rule n sum : ℕ) → size_of (read_book file) ≡ gives (record { rules = n; nodes = sum }) → n ≤ rule
-      → place_of file rule ≡ None
-  place_none rule n sum e h =
-      let c = checked_counts n sum e in
-      let past : length c.b.rules ≤ rule = omega (arith, c.many) in
-      rw (c.read, le-ltb _ _ past)
-
   pub place_lost : (rule n sum : ℕ) (r : Refusal) → Bytes file → size_of (read_book file) ≡ gives (record { rules = n; nodes = sum })
       → rule < n → find_from file rule 0 ≡ refused r → place_of file rule ≡ None
   place_lost rule n sum r all e h f = absurd (not_lost rule n sum r all e h f)

@@ -1,9 +1,12 @@
--- A number that fits a byte fits a machine word: for cells that are read and cast.
+-- The bytes of a slice, as the laws of the walk ask for them: each is below the count of bytes.
 -- Assumes nothing.
-use Prim.Native.Nat.{ℕ}
+use Prim.Native.Nat.{ℕ, ◌<◌}
 use native.Mathlib.Omega.{arith}
-use mir.Syntax.{w8, w64}
+use lib.ListN.{get_or}
+use mathlib.Core.List.{List}
+use mir.Syntax.{w8}
 use mir.Val.{Fits}
+use Rattle.number.specs.Limits.{bytes}
 
-pub wide : {x : ℕ} → Fits w8 x → Fits w64 x
-wide h = omega arith
+pub byte_fits : (text : List ℕ) → ((i : ℕ) → Fits w8 (get_or text i 0)) → (i : ℕ) → get_or text i 0 < bytes
+byte_fits text fits i = omega (arith, fits i)

@@ -1,7 +1,7 @@
 -- What a turn of a cut does to what remains of it, whatever finds the first word and whatever memory is: one law for each way that the code goes on or answers.
 -- At the start nothing was put yet, and what remains is the whole.
 use Prim.Native.Nat.{ℕ, zero, suc, ◌+◌, ◌-◌, ◌<◌, ◌≤◌}
-use Rattle.std.proofs.Common.{arith, add-one, add-zero, zero-add, sym, ap, ◌∙◌, drop_of_length-le, drop-drop}
+use Rattle.std.proofs.Common.{arith, add-zero, zero-add, sym, ap, ◌∙◌, drop_of_length-le, drop-drop}
 use Rattle.std.specs.Prelude.{◌≡◌, true, Result, Ok, List, [], ◌∷◌, length, get_or, drop}
 use Rattle.std.proofs.Math.Path.{refl}
 use Rattle.number.specs.declared.Refusal.{Refusal}
@@ -14,11 +14,11 @@ use Rattle.cutting.specs.declared.Word.{Word}
 use Rattle.cutting.specs.declared.Ended.{Ended}
 use Rattle.cutting.specs.declared.Ended.TheVariants.{Done, Stuck, Full}
 use Rattle.cutting.specs.Steps.{first_by}
-use Rattle.cutting.specs.Cut.{Cut, word_at, ends, before, cut_by}
+use Rattle.cutting.specs.Cut.{word_at, ends, before, cut_by}
 use Rattle.cutting.specs.Cut.Ending.{Done as Ending·done, StuckAt, FullAt}
 use Rattle.cutting.specs.Calls.{ended, cut_of}
 use Rattle.cutting.specs.Put.{Held, put_all, held}
-use Rattle.cutting.specs.Turns.{cut_left, behind, Stands}
+use Rattle.cutting.specs.Turns.{cut_left, Stands}
 use Rattle.cutting.specs.Promises.{CutsSlots}
 
 -- ---- one step of the definition

@@ -34,5 +34,5 @@ pub record Ran (targets : List ℕ) (text : Text) (state from dead : ℕ) (r : R
 
 -- what the walk found: a word's length and its rule
 abbrev pub next : Option (ℕ × ℕ) → Found
-next (Some (n , r)) = Found·word n r
+next (Some (n, r)) = Found·word n r
 next None = Found·stuck

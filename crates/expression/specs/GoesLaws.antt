@@ -20,9 +20,7 @@ use Rattle.typed.proofs.SpelledIsRead.{runs_append}
 use Rattle.typed.specs.TestLaws.{or_false}
 use Rattle.names.specs.Bytes.{byte_at, starting, marking}
 use Rattle.names.specs.ByteLaws.{byte_inside}
-use Rattle.expression.specs.declared.Read.{Read}
-use Rattle.expression.specs.declared.Read.TheVariants.{Wrong}
-use Rattle.expression.specs.Reads.{Goes, Reads, Due}
+use Rattle.expression.specs.Reads.{Read, wrong_at, Goes, Reads, Due}
 use Rattle.expression.specs.Reads.Reads.{reads, stops}
 use Rattle.expression.specs.Reads.Due.{outermost, after_bar, not_shut, goes_on}
 
@@ -74,7 +72,7 @@ module _ {text cells : List ℕ} {p top : ℕ} {s : State} {T : Exp → State �
 
   -- a wrong byte is wrong whatever would have come after
   pub still_wrong : {T' : Exp → State → Type 0} {N' : ℕ → Type 0} {q : ℕ} {c₁ : List ℕ} (c₂ : List ℕ)
-      → Reads text cells p top s T N (Wrong q) c₁ → Reads text cells p top s T' N' (Wrong q) c₂
+      → Reads text cells p top s T N (wrong_at q) c₁ → Reads text cells p top s T' N' (wrong_at q) c₂
   still_wrong c₂ (stops u g h) = stops u g h
 
 -- ---- what a byte is

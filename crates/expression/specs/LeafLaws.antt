@@ -1,6 +1,6 @@
 -- One law a return of the readers of an escape, a name and a leaf.
 -- Each is the byte-by-byte reader's steps over what was read, and the nodes that were laid.
-use Rattle.std.specs.Prelude.{ℕ, ◌+◌, ◌*◌, ◌<◌, ◌≤◌, ◌≡◌, true, false, List, [], ◌∷◌, ◌++◌, length}
+use Rattle.std.specs.Prelude.{ℕ, ◌+◌, ◌-◌, ◌*◌, ◌<◌, ◌≤◌, ◌≡◌, true, false, List, [], ◌∷◌, ◌++◌, length, take, drop, Some, None}
 use native.Mathlib.Omega.{arith}
 use Rattle.std.proofs.Math.Path.{refl}
 use Rattle.std.proofs.Common.{sym, ap, subst, ◌∙◌}
@@ -19,17 +19,18 @@ use Rattle.typed.specs.Reader.Mode.{plain, escape, half, naming}
 use Rattle.typed.specs.Reader.State.{at}
 use Rattle.typed.specs.Reader.Step.{wrong, go}
 use Rattle.typed.proofs.SpelledIsRead.{key_self}
-use Rattle.typed.specs.CallLaws.{HexSmall, hex_small}
+use Rattle.std.proofs.lemmas.Option.{none-some}
+use Rattle.std.proofs.lemmas.List.{drop-take}
 use Rattle.laid.specs.Laid.{pack, AddsCell, Adds}
 use Rattle.laid.specs.LaidLaws.{adds_node}
 use Rattle.laid.specs.Tables.{set_at}
-use Rattle.names.specs.Bytes.{byte_at, starting, hex_number}
-use Rattle.names.specs.ByteLaws.{byte_there, starting_5}
-use Rattle.names.specs.Names.{known_number}
+use Rattle.names.specs.Bytes.{byte_at, starting, found}
+use Rattle.names.specs.ByteLaws.{byte_there, starting_bare}
+use Rattle.names.specs.declared.Naming.{Naming}
+use Rattle.names.specs.declared.Naming.TheVariants.{Unknown, Begun, Whole}
+use Rattle.names.specs.Names.{told}
 use Rattle.names.specs.NameLaws.{is_set, is_begun, is_unknown}
-use Rattle.expression.specs.declared.Read.{Read}
-use Rattle.expression.specs.declared.Read.TheVariants.{At, Wrong}
-use Rattle.expression.specs.Reads.{Goes, Within}
+use Rattle.expression.specs.Reads.{Read, At, wrong_at, Goes, Within}
 use Rattle.expression.specs.Reads.Reads.{reads, stops}
 use Rattle.expression.specs.Reads.Within.{ahead, not_back}
 use Rattle.expression.specs.Reads.Item.{placed}
@@ -38,19 +39,19 @@ use Rattle.expression.specs.GoesLaws.{slice_join, slice_one, goes_none, goes_one
 
 -- ---- the two digits of an escape
 
-hex_none : (c x : ℕ) → x ≡ hex_number (hex c) → x ≡ 16 → hex c ≡ none
-hex_none c x e h = by_value (hex c) (hex_small c) (sym h ∙ e)
+hex_none : (c : ℕ) → None ≡ found (hex c) → hex c ≡ none
+hex_none c e = by_value (hex c) e
   where
-    by_value : (o : Option ℕ) → HexSmall o → 16 ≡ hex_number o → o ≡ none
-    by_value none s z = refl
-    by_value (some y) s z = absurd (omega arith)
+    by_value : (o : Option ℕ) → None ≡ found o → o ≡ none
+    by_value none z = refl
+    by_value (some y) z = absurd (none-some y z)
 
-hex_some : (c x : ℕ) → x ≡ hex_number (hex c) → (x ≡ 16 → ⊥) → hex c ≡ some x
-hex_some c x e h = by_value (hex c) e
+hex_some : (c x : ℕ) → Some x ≡ found (hex c) → hex c ≡ some x
+hex_some c x e = by_value (hex c) e
   where
-    by_value : (o : Option ℕ) → x ≡ hex_number o → o ≡ some x
-    by_value none z = absurd (h z)
-    by_value (some y) z = ap some (sym z)
+    by_value : (o : Option ℕ) → Some x ≡ found o → o ≡ some x
+    by_value none z = absurd (none-some x (sym z))
+    by_value (some y) z = let e : x ≡ y = cc in ap some (sym e)
 
 -- a newline is no digit, so where one is seen the text goes on
 no_newline : (c x : ℕ) → hex c ≡ some x → c ≡ 10 → ⊥
@@ -76,44 +77,44 @@ no_last : (x c : ℕ) (f : Frame) (fs : List Frame) (n : ℕ) → hex c ≡ none
 unfolding step last_digit
 no_last x c f fs n e = rw e refl
 
-module _ (text cells : List ℕ) (p top x : ℕ) (h : p ≤ length text) (e : x ≡ hex_number (hex (byte_at text p))) where
-  pub escape_none : x ≡ 16 → EscapeRead text cells p top (Wrong p) cells
+module _ (text cells : List ℕ) (p top : ℕ) (h : p ≤ length text) where
+  pub escape_none : None ≡ found (hex (byte_at text p)) → EscapeRead text cells p top (wrong_at p) cells
   unfolding ended
   escape_none z =
       record {
         same = refl;
         within = not_back p (omega arith) h;
         reads = λ f fs n. stops (at escape f fs n) (goes_none text p (at escape f fs n) h)
-            (record { no_step = λ _. no_first (byte_at text p) f fs n (hex_none (byte_at text p) x e z); no_end = λ _ _. refl });
+            (record { no_step = λ _. no_first (byte_at text p) f fs n (hex_none (byte_at text p) z); no_end = λ _ _. refl });
       }
 
-  module _ (n' : x ≡ 16 → ⊥) where
+  module _ (x : ℕ) (e : Some x ≡ found (hex (byte_at text p))) where
     pub first_there : p < length text
-    first_there = digit_there text p x (hex_some (byte_at text p) x e n')
+    first_there = digit_there text p x (hex_some (byte_at text p) x e)
 
     goes_first : (f : Frame) (fs : List Frame) (n : ℕ) → Goes text p (p + 1) (at escape f fs n) (at (half x) f fs n)
     goes_first f fs n =
         goes_one text p (byte_at text p) (at escape f fs n) (at (half x) f fs n) first_there refl
-        (first_step (byte_at text p) x f fs n (hex_some (byte_at text p) x e n'))
+        (first_step (byte_at text p) x f fs n (hex_some (byte_at text p) x e))
 
-    pub escape_half : (y : ℕ) → y ≡ hex_number (hex (byte_at text (p + 1))) → y ≡ 16 → EscapeRead text cells p top (Wrong (p + 1)) cells
+    pub escape_half : None ≡ found (hex (byte_at text (p + 1))) → EscapeRead text cells p top (wrong_at (p + 1)) cells
     unfolding ended
-    escape_half y d z =
+    escape_half z =
         record {
           same = refl;
           within = not_back (p + 1) (omega arith) (omega (arith, first_there));
           reads = λ f fs n. stops (at (half x) f fs n) (goes_first f fs n)
-              (record { no_step = λ _. no_last x (byte_at text (p + 1)) f fs n (hex_none (byte_at text (p + 1)) y d z); no_end = λ _ _. refl });
+              (record { no_step = λ _. no_last x (byte_at text (p + 1)) f fs n (hex_none (byte_at text (p + 1)) z); no_end = λ _ _. refl });
         }
 
-    pub last_there : (y : ℕ) → y ≡ hex_number (hex (byte_at text (p + 1))) → (y ≡ 16 → ⊥) → p + 1 < length text
-    last_there y d m = digit_there text (p + 1) y (hex_some (byte_at text (p + 1)) y d m)
+    pub last_there : (y : ℕ) → Some y ≡ found (hex (byte_at text (p + 1))) → p + 1 < length text
+    last_there y d = digit_there text (p + 1) y (hex_some (byte_at text (p + 1)) y d)
 
-    pub escape_read : (y cell : ℕ) (cells' : List ℕ) (top' : ℕ) → y ≡ hex_number (hex (byte_at text (p + 1))) → (y ≡ 16 → ⊥)
+    pub escape_read : (y cell : ℕ) (cells' : List ℕ) (top' : ℕ) → Some y ≡ found (hex (byte_at text (p + 1)))
         → cell ≡ pack (Range (x * 16 + y) (x * 16 + y)) → AddsCell cells top cell cells' top' → EscapeRead text cells p top (At (p + 2) top') cells'
     unfolding postfix
-    escape_read y cell cells' top' d m z a =
-        let l = last_there y d m in
+    escape_read y cell cells' top' d z a =
+        let l = last_there y d in
         let two : p + 1 + 1 ≡ p + 2 = omega arith in
         record {
           same = a.same;
@@ -121,19 +122,19 @@ module _ (text cells : List ℕ) (p top x : ℕ) (h : p ≤ length text) (e : x 
           reads = λ f fs n. reads (byte (x * 16 + y)) (at plain (put (byte (x * 16 + y)) f) fs n)
               (subst (λ (q : ℕ). Goes text p q (at escape f fs n) (at plain (put (byte (x * 16 + y)) f) fs n)) two
               (goes_then (goes_first f fs n) (goes_one text (p + 1) (byte_at text (p + 1)) (at (half x) f fs n)
-              (at plain (put (byte (x * 16 + y)) f) fs n) l refl (last_step x (byte_at text (p + 1)) y f fs n (hex_some (byte_at text (p + 1)) y d m)))))
+              (at plain (put (byte (x * 16 + y)) f) fs n) l refl (last_step x (byte_at text (p + 1)) y f fs n (hex_some (byte_at text (p + 1)) y d)))))
               placed tt (adds_node (Range (x * 16 + y) (x * 16 + y)) z a);
         }
 
 -- ---- a name, byte by byte
 
 -- the bytes so far begin a name
-pub record Naming (text : List ℕ) (from to : ℕ) : Type 0 where
+pub record NamedSoFar (text : List ℕ) (from to : ℕ) : Type 0 where
   pub goes : (f : Frame) (fs : List Frame) (n : ℕ) → Goes text from to (at (naming []) f fs n) (at (naming (slice from to text)) f fs n)
   pub started : from ≤ to
   pub inside : to ≤ length text
 
-pub naming_none : (text : List ℕ) (from : ℕ) → from ≤ length text → Naming text from from
+pub naming_none : (text : List ℕ) (from : ℕ) → from ≤ length text → NamedSoFar text from from
 naming_none text from h =
     record {
       goes = λ f fs n. subst (λ (w : List ℕ). Goes text from from (at (naming []) f fs n) (at (naming w) f fs n)) (sym (slice_empty from text))
@@ -147,8 +148,16 @@ name_step : (w : List ℕ) (c : ℕ) (v : List ℕ) (x : Known) (f : Frame) (fs 
 unfolding step
 name_step w c v x f fs n e k = rw (e, step, k) refl
 
-module _ (text : List ℕ) (from to k : ℕ) (l : to < length text) (a : Naming text from to)
-    (e : k ≡ known_number (known (slice from (to + 1) text) sets)) where
+module _ (text : List ℕ) (from to : ℕ) (l : to < length text) (a : NamedSoFar text from to) where
+  -- what the part up to and with the byte at `to` is to the names, told
+  abbrev Is : Naming → Type 0
+  Is x = x ≡ told (known (take (to + 1 - from) (drop from text)) sets)
+
+  is_part : {x : Naming} → Is x → x ≡ told (known (slice from (to + 1) text) sets)
+  is_part h =
+      let e : from + (to + 1 - from) ≡ to + 1 = omega (arith, a.started) in
+      h ∙ ap (λ (w : List ℕ). told (known w sets)) (sym (drop-take from (to + 1 - from) text) ∙ ap (λ (n : ℕ). drop from (take n text)) e)
+
   one_more : slice from to text ++ (byte_at text to ∷ []) ≡ slice from (to + 1) text
   one_more =
       ap (slice from to text ++◌) (sym (slice_one to text l))
@@ -158,51 +167,52 @@ module _ (text : List ℕ) (from to k : ℕ) (l : to < length text) (a : Naming 
       → step (at (naming (slice from to text)) f fs n) (byte_at text to) ≡ by_name x (slice from (to + 1) text) f fs n
   steps x f fs n z = name_step (slice from to text) (byte_at text to) (slice from (to + 1) text) x f fs n one_more z
 
-  pub naming_more : k ≡ 12 → Naming text from (to + 1)
+  pub naming_more : Is Begun → NamedSoFar text from (to + 1)
   unfolding by_name
   naming_more z =
       record {
         goes = λ f fs n. goes_then (a.goes f fs n) (goes_one text to (byte_at text to) (at (naming (slice from to text)) f fs n)
-            (at (naming (slice from (to + 1) text)) f fs n) l refl (steps begun f fs n (is_begun (known (slice from (to + 1) text) sets) k e z)));
+            (at (naming (slice from (to + 1) text)) f fs n) l refl (steps begun f fs n (is_begun (known (slice from (to + 1) text) sets) (is_part z))));
         started = omega (arith, a.started);
         inside = omega arith;
       }
 
-  pub name_unknown : (cells cells' : List ℕ) (top : ℕ) → length cells' ≡ length cells → 12 ≤ k → (k ≡ 12 → ⊥) → NameRead text cells from top (Wrong to) cells'
+  pub name_unknown : (cells cells' : List ℕ) (top : ℕ) → length cells' ≡ length cells → Is Unknown → NameRead text cells from top (wrong_at to) cells'
   unfolding by_name ended
-  name_unknown cells cells' top same m z =
+  name_unknown cells cells' top same z =
       record {
         same = same;
         within = not_back to a.started (omega arith);
         reads = λ f fs n. stops (at (naming (slice from to text)) f fs n) (a.goes f fs n)
             (record {
-              no_step = λ _. steps unknown f fs n (is_unknown (known (slice from (to + 1) text) sets) k e m z);
+              no_step = λ _. steps unknown f fs n (is_unknown (known (slice from (to + 1) text) sets) (is_part z));
               no_end = λ _ _. refl;
             });
       }
 
-  pub name_read : (cells cells' : List ℕ) (top top' : ℕ) → k < 12 → Adds cells top (postfix (set (set_at k))) cells' top'
+  pub name_read : (k : ℕ) (cells cells' : List ℕ) (top top' : ℕ) → Is (Whole k) → Adds cells top (postfix (set (set_at k))) cells' top'
       → NameRead text cells from top (At (to + 1) top') cells'
   unfolding by_name
-  name_read cells cells' top top' m d =
+  name_read k cells cells' top top' m d =
       record {
         same = d.same;
         within = ahead (to + 1) (omega (arith, a.started)) (omega arith);
         reads = λ f fs n. reads (set (set_at k)) (at plain (put (set (set_at k)) f) fs n)
             (goes_then (a.goes f fs n) (goes_one text to (byte_at text to) (at (naming (slice from to text)) f fs n)
-            (at plain (put (set (set_at k)) f) fs n) l refl (steps (whole (set_at k)) f fs n (is_set (known (slice from (to + 1) text) sets) k e m))))
+            (at plain (put (set (set_at k)) f) fs n) l refl (steps (whole (set_at k)) f fs n (is_set (known (slice from (to + 1) text) sets) k (is_part m)).1)))
             placed tt d;
       }
 
-pub name_ends : (text : List ℕ) (from to : ℕ) (cells cells' : List ℕ) (top : ℕ) → length text ≤ to → Naming text from to → length cells' ≡ length cells
-    → NameRead text cells from top (Wrong to) cells'
+pub name_ends : (text : List ℕ) (from to : ℕ) (cells cells' : List ℕ) (top : ℕ) → length text ≤ to → NamedSoFar text from to → length cells' ≡ length cells
+    → NameRead text cells from top (wrong_at (length text)) cells'
 name_ends text from to cells cells' top h a same =
-    record {
+    let e : to ≡ length text = omega (arith, a.inside) in
+    rw (← e) (record {
       same = same;
       within = not_back to a.started a.inside;
       reads = λ f fs n. stops (at (naming (slice from to text)) f fs n) (a.goes f fs n)
           (record { no_step = λ z. absurd (omega arith); no_end = λ z. absurd (omega arith) });
-    }
+    })
 
 -- the cells are those from before the loop
 pub name_from : {text c₀ cells : List ℕ} {from top : ℕ} {r : Read} {cells' : List ℕ} → cells ≡ c₀ → NameRead text cells from top r cells'
@@ -282,14 +292,14 @@ module _ (text : List ℕ) (p c : ℕ) (e : c ≡ byte_at text p) where
       }
 
   pub leaf_wrong : (cells : List ℕ) (top : ℕ) → p ≤ length text → (c ≡ 92 → ⊥) → (c ≡ 60 → ⊥) → (c ≡ 46 → ⊥) → bare c ≡ false
-      → LeafRead text cells p top (Wrong p) cells
+      → LeafRead text cells p top (wrong_at p) cells
   leaf_wrong cells top h x y z b =
       record {
         same = refl;
         within = not_back p (omega arith) h;
         reads = λ f fs n o d.
             let s : starting (byte_at text p) ≡ false =
-            sym (starting_5 (byte_at text p) false o (λ k. y (e ∙ k)) (λ k. x (e ∙ k)) (λ k. z (e ∙ k)) (sym (sym (ap bare e) ∙ b))) in
+            sym (starting_bare (byte_at text p) false o (λ k. y (e ∙ k)) (λ k. x (e ∙ k)) (λ k. z (e ∙ k)) (sym (sym (ap bare e) ∙ b))) in
             stops (at plain f fs n) (goes_none text p (at plain f fs n) h)
             (record { no_step = λ _. due_wrong (byte_at text p) f fs n d s; no_end = λ _ _. due_open (byte_at text p) f fs n d s });
       }

@@ -1,6 +1,6 @@
 -- One law a return, and one a turn of a loop, of the marks, the closing parenthesis, a sequence, a choice and an atom.
 -- A reading is carried on from where the last one ended: its state is known up to the expression that was read.
-use Rattle.std.specs.Prelude.{ℕ, suc, ◌+◌, ◌<◌, ◌≤◌, ◌≡◌, Bool, true, false, ◌||◌, List, [], ◌∷◌, eqb, length}
+use Rattle.std.specs.Prelude.{ℕ, suc, ◌+◌, ◌<◌, ◌≤◌, ◌≡◌, Bool, true, false, ◌||◌, List, [], ◌∷◌, eqb, length, Err}
 use native.Mathlib.Omega.{arith}
 use Rattle.std.proofs.Math.Path.{refl}
 use Rattle.std.proofs.Common.{sym, ap, subst, ◌∙◌, eqb-true}
@@ -17,13 +17,12 @@ use Rattle.typed.specs.Reader.Frame.{bared, held}
 use Rattle.typed.specs.Reader.Mode.{plain}
 use Rattle.typed.specs.Reader.State.{at}
 use Rattle.typed.specs.Reader.Step.{wrong, go}
+use Rattle.expression.specs.declared.Wrong.{Wrong}
 use Rattle.laid.specs.Laid.{AddsCell, Adds, mark_of, Marked}
 use Rattle.laid.specs.LaidLaws.{lays_capped, adds_node, adds_then}
 use Rattle.names.specs.Bytes.{byte_at, starting, marking}
 use Rattle.names.specs.ByteLaws.{byte_there, byte_past}
-use Rattle.expression.specs.declared.Read.{Read}
-use Rattle.expression.specs.declared.Read.TheVariants.{At, Wrong}
-use Rattle.expression.specs.Reads.{Goes, Reads, Within, Item, Row, Chosen, Any, NoMark, Breaks, Ends, AtomRead, SequenceRead, ChoiceRead}
+use Rattle.expression.specs.Reads.{Read, At, wrong_at, Goes, Reads, Within, Item, Row, Chosen, Any, NoMark, Breaks, Ends, AtomRead, SequenceRead, ChoiceRead}
 use Rattle.expression.specs.Reads.Reads.{reads, stops}
 use Rattle.expression.specs.Reads.Within.{ahead, not_back}
 use Rattle.expression.specs.Reads.Due.{after_bar, not_shut, goes_on}
@@ -38,7 +37,7 @@ use Rattle.expression.specs.GoesLaws.{goes_none, goes_one, goes_then, reads_afte
 pub at_of : {p len q t : ℕ} → Within p len (At q t) → (p < q) × (q ≤ len)
 at_of (ahead q h k) = (h, k)
 
-pub wrong_of : {p len q : ℕ} → Within p len (Wrong q) → (p ≤ q) × (q ≤ len)
+pub wrong_of : {p len q : ℕ} → Within p len (wrong_at q) → (p ≤ q) × (q ≤ len)
 wrong_of (not_back q h k) = (h, k)
 
 -- further on from a place that was reached
@@ -86,68 +85,61 @@ marked_adds m e a d =
     record { same = d.same ∙ a.same; small = λ _. d.small; adds = λ ns h. d.adds ns e (lays_capped h) (a.adds ns h) }
 
 -- the marks so far
-pub record MarksSoFar (text : List ℕ) (atom : Read) (cells : List ℕ) (start : ℕ) (cells' : List ℕ) (p t : ℕ) : Type 0 where
+pub record MarksSoFar (text : List ℕ) (from : ℕ) (cells : List ℕ) (start count : ℕ) (cells' : List ℕ) (p t : ℕ) : Type 0 where
   pub same : length cells' ≡ length cells
-  pub reads : (c₀ : List ℕ) (from n : ℕ) → AtomRead Any text c₀ from n start atom cells → AtomRead Any text c₀ from n start (At p t) cells'
+  pub reads : (c₀ : List ℕ) (at n : ℕ) → AtomRead Any text c₀ at n start (At from count) cells → AtomRead Any text c₀ at n start (At p t) cells'
 
-module _ (text : List ℕ) (atom : Read) (cells : List ℕ) (start : ℕ) where
-  pub marks_wrong : (q : ℕ) → atom ≡ Wrong q → MarksRead text atom cells start atom cells
-  marks_wrong q z =
-      record {
-        same = refl;
-        reads = λ c₀ p n a.
-            let b = subst (λ (r : Read). AtomRead Any text c₀ p n start r cells) z a in
-            subst (λ (r : Read). AtomRead NoMark text c₀ p n start r cells) (sym z)
-            (record { same = b.same; within = b.within; reads = λ f fs d. still_wrong cells (b.reads f fs d) });
-      }
+module _ (text : List ℕ) (from : ℕ) (cells : List ℕ) (start count : ℕ) where
+  pub marks_first : MarksSoFar text from cells start count cells from count
+  marks_first = record { same = refl; reads = λ c₀ at n a. a }
 
-  pub marks_first : (p t : ℕ) → atom ≡ At p t → MarksSoFar text atom cells start cells p t
-  marks_first p t z = record { same = refl; reads = λ c₀ from n a. subst (λ (r : Read). AtomRead Any text c₀ from n start r cells) z a }
-
-  module _ (cells' : List ℕ) (p t : ℕ) (s : MarksSoFar text atom cells start cells' p t) where
-    more_reads : (c₀ : List ℕ) (from n : ℕ) (cells'' : List ℕ) (t'' : ℕ) (f : Frame) (fs : List Frame) → p < length text → marking (byte_at text p) ≡ true
-        → Marked (mark_of (byte_at text p)) cells' start t cells'' t'' → Reads text c₀ from start (at plain f fs n) (Item f fs n) Any (At p t) cells'
-        → Reads text c₀ from start (at plain f fs n) (Item f fs n) Any (At (p + 1) t'') cells''
-    more_reads c₀ from n cells'' t'' f fs l m d (reads e u g placed x a) =
+  module _ (cells' : List ℕ) (p t : ℕ) (s : MarksSoFar text from cells start count cells' p t) where
+    more_reads : (c₀ : List ℕ) (begun n : ℕ) (cells'' : List ℕ) (t'' : ℕ) (f : Frame) (fs : List Frame) → p < length text → marking (byte_at text p) ≡ true
+        → Marked (mark_of (byte_at text p)) cells' start t cells'' t'' → Reads text c₀ begun start (at plain f fs n) (Item f fs n) Any (At p t) cells'
+        → Reads text c₀ begun start (at plain f fs n) (Item f fs n) Any (At (p + 1) t'') cells''
+    more_reads c₀ begun n cells'' t'' f fs l m d (reads e u g placed x a) =
         reads (marked (mark_of (byte_at text p)) e) (at plain (put (marked (mark_of (byte_at text p)) e) f) fs n)
         (goes_then g (goes_one text p (byte_at text p) (at plain (put e f) fs n) (at plain (put (marked (mark_of (byte_at text p)) e) f) fs n) l refl
         (mark_step (byte_at text p) e f fs n m))) placed tt (marked_adds (mark_of (byte_at text p)) e a d)
 
     pub marks_more : (cells'' : List ℕ) (t'' c : ℕ) → p < length text → c ≡ byte_at text p → true ≡ marking c → Marked (mark_of c) cells' start t cells'' t''
-        → MarksSoFar text atom cells start cells'' (p + 1) t''
+        → MarksSoFar text from cells start count cells'' (p + 1) t''
     marks_more cells'' t'' c l e m d =
         let m' : marking (byte_at text p) ≡ true = sym (m ∙ ap marking e) in
         let d' = subst (λ (x : ℕ). Marked (mark_of x) cells' start t cells'' t'') e d in
         record {
           same = d.same ∙ s.same;
-          reads = λ c₀ from n a.
-              let b = s.reads c₀ from n a in
+          reads = λ c₀ begun n a.
+              let b = s.reads c₀ begun n a in
               record {
                 same = d.same ∙ b.same;
                 within = ahead (p + 1) (omega (arith, (at_of b.within).0)) (omega arith);
-                reads = λ f fs z. more_reads c₀ from n cells'' t'' f fs l m' d' (b.reads f fs z);
+                reads = λ f fs z. more_reads c₀ begun n cells'' t'' f fs l m' d' (b.reads f fs z);
               };
         }
 
-    done_reads : {c₀ : List ℕ} {from n : ℕ} {f : Frame} {fs : List Frame} → marking (byte_at text p) ≡ false
-        → Reads text c₀ from start (at plain f fs n) (Item f fs n) Any (At p t) cells' → Reads text c₀ from start (at plain f fs n) (Item f fs n) NoMark (At p t) cells'
+    done_reads : {c₀ : List ℕ} {begun n : ℕ} {f : Frame} {fs : List Frame} → marking (byte_at text p) ≡ false
+        → Reads text c₀ begun start (at plain f fs n) (Item f fs n) Any (At p t) cells' → Reads text c₀ begun start (at plain f fs n) (Item f fs n) NoMark (At p t) cells'
     done_reads m (reads e u g i x a) = reads e u g i m a
 
-    pub marks_done : (c : ℕ) → c ≡ byte_at text p → false ≡ marking c → MarksRead text atom cells start (At p t) cells'
+    pub marks_done : (c : ℕ) → c ≡ byte_at text p → false ≡ marking c → MarksRead text from cells start count (p, t) cells'
     marks_done c e m =
         record {
           same = s.same;
-          reads = λ c₀ from n a.
-              let b = s.reads c₀ from n a in
+          reads = λ c₀ begun n a.
+              let b = s.reads c₀ begun n a in
               record { same = b.same; within = b.within; reads = λ f fs z. done_reads (sym (m ∙ ap marking e)) (b.reads f fs z) };
         }
 
-    pub marks_end : length text ≤ p → MarksRead text atom cells start (At p t) cells'
-    marks_end h = marks_done (byte_at text p) refl (sym (end_marks text p h))
-
-pub marks_as : {text cells : List ℕ} {start : ℕ} {atom atom' r : Read} {cells' : List ℕ} → atom ≡ atom' → MarksRead text atom' cells start r cells'
-    → MarksRead text atom cells start r cells'
-marks_as {text} {cells} {start} {r = r} {cells' = cells'} e h = subst (λ (a : Read). MarksRead text a cells start r cells') (sym e) h
+    pub marks_end : length text ≤ p → (from ≤ length text → p ≤ length text) → MarksRead text from cells start count (length text, t) cells'
+    marks_end h k =
+        let d = marks_done (byte_at text p) refl (sym (end_marks text p h)) in
+        record {
+          same = s.same;
+          reads = λ c₀ begun n a.
+              let e : p ≡ length text = omega (arith, k (at_of a.within).1) in
+              subst (λ (q : ℕ). AtomRead NoMark text c₀ begun n start (At q t) cells') e (d.reads c₀ begun n a);
+        }
 
 -- ---- the parenthesis after a choice
 
@@ -166,44 +158,37 @@ unfolding step by_key key
 end_step c f fs n m s b z = rw (key_other c m s b z) refl
 
 module _ (text : List ℕ) where
-  pub shut_wrong : (inner : Read) (q : ℕ) → inner ≡ Wrong q → ShutRead text inner inner
-  shut_wrong inner q z =
-      subst (λ (r : Read). ShutRead text r r) (sym z)
-      (record { within = λ p h. h; reads = λ cells cells' p top n s f fs a. still_wrong cells' a })
+  pub shut_wrong : (w : Wrong) → ShutRead text (Err w) (Err w)
+  shut_wrong w = record { within = λ p h. h; reads = λ cells cells' p top n s f fs a. still_wrong cells' a }
 
-  module _ (inner : Read) (p t : ℕ) (z : inner ≡ At p t) where
+  module _ (p t : ℕ) where
     there_reads : (cells cells' : List ℕ) (from top n : ℕ) (s : State) (f : Frame) (fs : List Frame) → byte_at text p ≡ 41 → p < length text
         → Reads text cells from top s (Chosen (f ∷ fs) n) Ends (At p t) cells' → Reads text cells from top s (Item f fs (suc n)) Any (At (p + 1) t) cells'
     there_reads cells cells' from top n s f fs c l (reads e u g (chosen {b = b} {r = r} {l = i}) x a) =
         reads e (at plain (put e f) fs (suc n))
         (goes_then g (goes_one text p 41 (at plain (held b r i) (f ∷ fs) n) (at plain (put e f) fs (suc n)) l c (shut_step b r i f fs n))) placed tt a
 
-    pub closed_there : (c : ℕ) → c ≡ byte_at text p → c ≡ 41 → p < length text
-    closed_there c e k = byte_there text p (λ y. omega arith)
-
-    pub shut_there : (c : ℕ) → c ≡ byte_at text p → c ≡ 41 → ShutRead text inner (At (p + 1) t)
+    pub shut_there : (c : ℕ) → c ≡ byte_at text p → c ≡ 41 → ShutRead text (At p t) (At (p + 1) t)
     shut_there c e k =
-        let l = closed_there c e k in
-        subst (λ (r : Read). ShutRead text r (At (p + 1) t)) (sym z)
-        (record {
+        let l = byte_there text p (λ y. omega arith) in
+        record {
           within = λ from h. ahead (p + 1) (omega (arith, (at_of h).0)) (omega arith);
           reads = λ cells cells' from top n s f fs a. there_reads cells cells' from top n s f fs (sym e ∙ k) l a;
-        })
+        }
 
     missing_reads : (cells cells' : List ℕ) (from top n : ℕ) (s : State) (f : Frame) (fs : List Frame) → (byte_at text p ≡ 41 → ⊥)
-        → Reads text cells from top s (Chosen (f ∷ fs) n) Ends (At p t) cells' → Reads text cells from top s (Item f fs (suc n)) Any (Wrong p) cells'
+        → Reads text cells from top s (Chosen (f ∷ fs) n) Ends (At p t) cells' → Reads text cells from top s (Item f fs (suc n)) Any (wrong_at p) cells'
     unfolding ended
     missing_reads cells cells' from top n s f fs c (reads e u g (chosen {b = b} {r = r} {l = i}) x a) =
         stops (at plain (held b r i) (f ∷ fs) n) g
         (record { no_step = λ _. end_step (byte_at text p) (held b r i) (f ∷ fs) n x.0 x.1 x.2 c; no_end = λ _ _. refl })
 
-    pub shut_missing : (c : ℕ) → c ≡ byte_at text p → (c ≡ 41 → ⊥) → ShutRead text inner (Wrong p)
+    pub shut_missing : (c : ℕ) → c ≡ byte_at text p → (c ≡ 41 → ⊥) → ShutRead text (At p t) (wrong_at p)
     shut_missing c e k =
-        subst (λ (r : Read). ShutRead text r (Wrong p)) (sym z)
-        (record {
+        record {
           within = λ from h. not_back p (omega (arith, (at_of h).0)) (at_of h).1;
           reads = λ cells cells' from top n s f fs a. missing_reads cells cells' from top n s f fs (λ y. k (e ∙ y)) a;
-        })
+        }
 
 -- ---- loops: what was read before the first turn goes on as what is read so far
 
@@ -214,17 +199,6 @@ pub record SoFar (P : List ℕ → ℕ → ℕ → Read → List ℕ → Type 0)
 
 pub so_far_none : (P : List ℕ → ℕ → ℕ → Read → List ℕ → Type 0) (c₁ : List ℕ) (from count : ℕ) → SoFar P c₁ from count c₁ from count
 so_far_none P c₁ from count = record { same = refl; started = omega arith; reads = λ c at top a. a }
-
--- a reading of an answer is one of what the answer is
-module _ {N : ℕ → Type 0} {text cells : List ℕ} {p n top : ℕ} {r r' : Read} {cells' : List ℕ} where
-  pub atom_as : r ≡ r' → AtomRead N text cells p n top r cells' → AtomRead N text cells p n top r' cells'
-  atom_as e h = subst (λ (x : Read). AtomRead N text cells p n top x cells') e h
-
-  pub sequence_as : r ≡ r' → SequenceRead N text cells p n top r cells' → SequenceRead N text cells p n top r' cells'
-  sequence_as e h = subst (λ (x : Read). SequenceRead N text cells p n top x cells') e h
-
-  pub choice_as : r ≡ r' → ChoiceRead N text cells p n top r cells' → ChoiceRead N text cells p n top r' cells'
-  choice_as e h = subst (λ (x : Read). ChoiceRead N text cells p n top x cells') e h
 
 -- ---- a sequence
 
@@ -246,7 +220,7 @@ module _ (text cells : List ℕ) (p n top : ℕ) where
   pub sequence_first : {q t : ℕ} {c₁ : List ℕ} → AtomRead NoMark text cells p n top (At q t) c₁ → SequenceRead NoMark text cells p n top (At q t) c₁
   sequence_first a = record { same = a.same; within = a.within; reads = λ b fs d. row_first b fs (a.reads (bared b) fs d) }
 
-  pub sequence_wrong : {q : ℕ} {c₁ : List ℕ} → AtomRead NoMark text cells p n top (Wrong q) c₁ → SequenceRead Breaks text cells p n top (Wrong q) c₁
+  pub sequence_wrong : {q : ℕ} {c₁ : List ℕ} → AtomRead Any text cells p n top (wrong_at q) c₁ → SequenceRead Breaks text cells p n top (wrong_at q) c₁
   sequence_wrong {c₁ = c₁} a = record { same = a.same; within = a.within; reads = λ b fs d. still_wrong c₁ (a.reads (bared b) fs d) }
 
   module _ (q t : ℕ) (c₁ : List ℕ) (a : SequenceRead NoMark text cells p n top (At q t) c₁) where
@@ -271,17 +245,17 @@ module _ (text cells : List ℕ) (p n top : ℕ) where
           reads = λ b fs z. row_more q' t' t'' c₂ c₃ b fs (sym (s ∙ ap starting e)) m (adds_node Cat refl d) (a.reads b fs z);
         }
 
-    row_wrong : (q' : ℕ) (c₂ : List ℕ) (b : Option Exp) (fs : List Frame) → starting (byte_at text q) ≡ true → AtomRead NoMark text c₁ q n t (Wrong q') c₂
+    row_wrong : (q' : ℕ) (c₂ : List ℕ) (b : Option Exp) (fs : List Frame) → starting (byte_at text q) ≡ true → AtomRead Any text c₁ q n t (wrong_at q') c₂
         → Reads text cells p top (at plain (bared b) fs n) (Row b fs n) NoMark (At q t) c₁
-        → Reads text cells p top (at plain (bared b) fs n) (Row b fs n) Breaks (Wrong q') c₂
+        → Reads text cells p top (at plain (bared b) fs n) (Row b fs n) Breaks (wrong_at q') c₂
     row_wrong q' c₂ b fs s m (reads e u g (in_row {r} {l}) x i) = by_next (m.reads (held b r l) fs (goes_on s))
       where
-        by_next : Reads text c₁ q t (at plain (held b r l) fs n) (Item (held b r l) fs n) NoMark (Wrong q') c₂
-            → Reads text cells p top (at plain (bared b) fs n) (Row b fs n) Breaks (Wrong q') c₂
+        by_next : Reads text c₁ q t (at plain (held b r l) fs n) (Item (held b r l) fs n) Any (wrong_at q') c₂
+            → Reads text cells p top (at plain (bared b) fs n) (Row b fs n) Breaks (wrong_at q') c₂
         by_next (stops u₂ g₂ h) = stops u₂ (goes_then g g₂) h
 
-    pub sequence_more_wrong : (q' : ℕ) (c₂ : List ℕ) (c : ℕ) → c ≡ byte_at text q → true ≡ starting c → AtomRead NoMark text c₁ q n t (Wrong q') c₂
-        → SequenceRead Breaks text cells p n top (Wrong q') c₂
+    pub sequence_more_wrong : (q' : ℕ) (c₂ : List ℕ) (c : ℕ) → c ≡ byte_at text q → true ≡ starting c → AtomRead Any text c₁ q n t (wrong_at q') c₂
+        → SequenceRead Breaks text cells p n top (wrong_at q') c₂
     sequence_more_wrong q' c₂ c e s m =
         record {
           same = m.same ∙ a.same;
@@ -328,7 +302,7 @@ module _ (text cells : List ℕ) (p n top : ℕ) where
   pub choice_first : {q t : ℕ} {c₁ : List ℕ} → SequenceRead Breaks text cells p n top (At q t) c₁ → ChoiceRead Breaks text cells p n top (At q t) c₁
   choice_first a = record { same = a.same; within = a.within; reads = λ fs d. choice_one fs (a.reads none fs d) }
 
-  pub choice_wrong : {q : ℕ} {c₁ : List ℕ} → SequenceRead Breaks text cells p n top (Wrong q) c₁ → ChoiceRead Ends text cells p n top (Wrong q) c₁
+  pub choice_wrong : {q : ℕ} {c₁ : List ℕ} → SequenceRead Breaks text cells p n top (wrong_at q) c₁ → ChoiceRead Ends text cells p n top (wrong_at q) c₁
   choice_wrong {c₁ = c₁} a = record { same = a.same; within = a.within; reads = λ fs d. still_wrong c₁ (a.reads none fs d) }
 
   module _ (q t : ℕ) (c₁ : List ℕ) (a : ChoiceRead Breaks text cells p n top (At q t) c₁) (l : q < length text) (z : byte_at text q ≡ 124) where
@@ -355,16 +329,16 @@ module _ (text cells : List ℕ) (p n top : ℕ) where
           reads = λ fs k. choice_on q' t' t'' c₂ c₃ fs m (adds_node Alt refl d) (a.reads fs k);
         }
 
-    choice_off : (q' : ℕ) (c₂ : List ℕ) (fs : List Frame) → SequenceRead Breaks text c₁ (q + 1) n t (Wrong q') c₂
+    choice_off : (q' : ℕ) (c₂ : List ℕ) (fs : List Frame) → SequenceRead Breaks text c₁ (q + 1) n t (wrong_at q') c₂
         → Reads text cells p top (at plain (bared none) fs n) (Chosen fs n) Breaks (At q t) c₁
-        → Reads text cells p top (at plain (bared none) fs n) (Chosen fs n) Ends (Wrong q') c₂
+        → Reads text cells p top (at plain (bared none) fs n) (Chosen fs n) Ends (wrong_at q') c₂
     choice_off q' c₂ fs m (reads e u g (chosen {b = b} {r = r} {l = i}) x y) = by_next (m.reads (some (made b r i)) fs after_bar)
       where
-        by_next : Reads text c₁ (q + 1) t (at plain (bared (some (made b r i))) fs n) (Row (some (made b r i)) fs n) Breaks (Wrong q') c₂
-            → Reads text cells p top (at plain (bared none) fs n) (Chosen fs n) Ends (Wrong q') c₂
+        by_next : Reads text c₁ (q + 1) t (at plain (bared (some (made b r i))) fs n) (Row (some (made b r i)) fs n) Breaks (wrong_at q') c₂
+            → Reads text cells p top (at plain (bared none) fs n) (Chosen fs n) Ends (wrong_at q') c₂
         by_next (stops u₂ g₂ h) = stops u₂ (goes_then (goes_bar b r i fs g) g₂) h
 
-    pub choice_more_wrong : (q' : ℕ) (c₂ : List ℕ) → SequenceRead Breaks text c₁ (q + 1) n t (Wrong q') c₂ → ChoiceRead Ends text cells p n top (Wrong q') c₂
+    pub choice_more_wrong : (q' : ℕ) (c₂ : List ℕ) → SequenceRead Breaks text c₁ (q + 1) n t (wrong_at q') c₂ → ChoiceRead Ends text cells p n top (wrong_at q') c₂
     choice_more_wrong q' c₂ m =
         record {
           same = m.same ∙ a.same;
@@ -424,7 +398,7 @@ module _ (text : List ℕ) (p c : ℕ) (e : c ≡ byte_at text p) where
     pub opened_there : p < length text
     opened_there = byte_there text p (λ y. omega arith)
 
-    pub atom_deep : (cells : List ℕ) (n top : ℕ) → n ≡ 0 → AtomRead Any text cells p n top (Wrong p) cells
+    pub atom_deep : (cells : List ℕ) (n top : ℕ) → n ≡ 0 → AtomRead Any text cells p n top (wrong_at p) cells
     atom_deep cells n top k =
         rw k (record {
           same = refl;

@@ -1,6 +1,6 @@
 -- What a reader of a part answers: from a place and a state of the byte-by-byte reader, the state after what it read, and the nodes it laid;
 -- or the wrong byte, which that reader does not take in the state it has reached. For every state in which the part may be due.
-use Rattle.std.specs.Prelude.{ℕ, ◌<◌, ◌≤◌, ◌≡◌, true, false, List, [], length}
+use Rattle.std.specs.Prelude.{ℕ, ◌<◌, ◌≤◌, ◌≡◌, true, false, List, [], length, Result, Ok, Err}
 use Rattle.std.proofs.Math.Option.{Option}
 use Rattle.std.proofs.Math.Option.Option.{none, some}
 use Rattle.std.proofs.Math.Seq.{slice}
@@ -12,8 +12,17 @@ use Rattle.typed.specs.Reader.State.{at}
 use Rattle.typed.specs.Reader.Step.{wrong, go}
 use Rattle.laid.specs.Laid.{Adds}
 use Rattle.names.specs.Bytes.{byte_at, starting, marking}
-use Rattle.expression.specs.declared.Read.{Read}
-use Rattle.expression.specs.declared.Read.TheVariants.{At, Wrong}
+use Rattle.expression.specs.declared.Wrong.{Wrong}
+
+-- the place after what was read and the count of nodes there, or the wrong byte
+abbrev pub Read : Type 0
+Read = Result (ℕ × ℕ) Wrong
+
+abbrev pub At : ℕ → ℕ → Read
+At q top = Ok (q, top)
+
+abbrev pub wrong_at : ℕ → Read
+wrong_at q = Err (record { at = q })
 
 -- the bytes from p to q lead from one state to another
 pub record Goes (text : List ℕ) (p q : ℕ) (s u : State) : Type 0 where
@@ -30,12 +39,12 @@ pub record Halts (text : List ℕ) (q : ℕ) (u : State) : Type 0 where
 pub data Reads (text cells : List ℕ) (p top : ℕ) (s : State) (Then : Exp → State → Type 0) (Next : ℕ → Type 0) : Read → List ℕ → Type 0 where
   reads : {q top' : ℕ} {cells' : List ℕ} (e : Exp) (u : State) → Goes text p q s u → Then e u → Next (byte_at text q)
       → Adds cells top (postfix e) cells' top' → Reads text cells p top s Then Next (At q top') cells'
-  stops : {q : ℕ} {cells' : List ℕ} (u : State) → Goes text p q s u → Halts text q u → Reads text cells p top s Then Next (Wrong q) cells'
+  stops : {q : ℕ} {cells' : List ℕ} (u : State) → Goes text p q s u → Halts text q u → Reads text cells p top s Then Next (wrong_at q) cells'
 
 -- places go forward and stay within the text
 pub data Within (p len : ℕ) : Read → Type 0 where
   ahead : (q : ℕ) {top : ℕ} → p < q → q ≤ len → Within p len (At q top)
-  not_back : (q : ℕ) → p ≤ q → q ≤ len → Within p len (Wrong q)
+  not_back : (q : ℕ) → p ≤ q → q ≤ len → Within p len (wrong_at q)
 
 -- where a part is due, in this frame and with these open: a byte c that could close an empty pair of parentheses is not there
 pub data Due (c : ℕ) : Frame → List Frame → Type 0 where

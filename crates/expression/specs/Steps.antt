@@ -5,8 +5,7 @@ use Rattle.typed.specs.Reader.{Frame, State}
 use Rattle.typed.specs.Reader.Mode.{plain, escape, naming}
 use Rattle.typed.specs.Reader.State.{at}
 use Rattle.names.specs.Bytes.{byte_at}
-use Rattle.expression.specs.declared.Read.{Read}
-use Rattle.expression.specs.Reads.{Reads, Within, Due, Item, Chosen, Any, NoMark, Ends, AtomRead}
+use Rattle.expression.specs.Reads.{Read, At, Reads, Within, Due, Item, Chosen, Any, NoMark, Ends, AtomRead}
 
 -- after the backslash
 pub record EscapeRead (text cells : List ℕ) (p top : ℕ) (r : Read) (cells' : List ℕ) : Type 0 where
@@ -28,9 +27,9 @@ pub record LeafRead (text cells : List ℕ) (p top : ℕ) (r : Read) (cells' : L
       → Reads text cells p top (at plain f fs n) (Item f fs n) Any r cells'
 
 -- an atom's reading with the marks after it
-pub record MarksRead (text : List ℕ) (atom : Read) (cells : List ℕ) (start : ℕ) (r : Read) (cells' : List ℕ) : Type 0 where
+pub record MarksRead (text : List ℕ) (from : ℕ) (cells : List ℕ) (start count : ℕ) (r : ℕ × ℕ) (cells' : List ℕ) : Type 0 where
   pub same : length cells' ≡ length cells
-  pub reads : (c₀ : List ℕ) (p n : ℕ) → AtomRead Any text c₀ p n start atom cells → AtomRead NoMark text c₀ p n start r cells'
+  pub reads : (c₀ : List ℕ) (p n : ℕ) → AtomRead Any text c₀ p n start (At from count) cells → AtomRead NoMark text c₀ p n start (At r.0 r.1) cells'
 
 -- a choice's reading with the parenthesis after it
 pub record ShutRead (text : List ℕ) (inner r : Read) : Type 0 where

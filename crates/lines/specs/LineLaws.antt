@@ -1,10 +1,9 @@
 -- How long a line can get, so that room can be planned: 32 bytes at most for numbers below 2^20; twenty digits for any number of 64 bits.
 -- Then one law a writer: what its calls add, one after another, is the line.
-use Rattle.std.specs.Prelude.{ℕ, suc, ◌+◌, ◌*◌, ◌/◌, ◌%◌, ◌^◌, ◌<◌, ◌≤◌, ◌≡◌, List, [], ◌∷◌, length, drop, get_or}
-use Rattle.std.proofs.Common.{arith, drop_of_length-le}
-use Rattle.std.proofs.Math.ListN.{length-append}
+use Rattle.std.specs.Prelude.{ℕ, suc, ◌+◌, ◌*◌, ◌/◌, ◌%◌, ◌^◌, ◌<◌, ◌≤◌, ◌≡◌, refl, List, [], ◌∷◌, ◌++◌, length, take, drop, get_or}
+use Rattle.std.proofs.Common.{arith, sym, ap, subst, ◌∙◌, append_assoc, length-append, drop-drop, drop_of_length-le}
 use Rattle.number.specs.declared.Refusal.{Refusal}
-use Rattle.number.specs.Lists.{drop_one, Writes, writes_none, writes_then}
+use Rattle.number.specs.Lists.{drop_one, written, Writes, writes_then}
 use Rattle.number.specs.Refused.{number, place}
 use Rattle.lines.specs.Digits.{digit, decimal, hex}
 use Rattle.lines.specs.Lines.{space, newline, done_word, stuck_word, refused_word, differs_word}
@@ -54,16 +53,11 @@ unfolding hex_line
 hex_length [] = omega arith
 hex_length (b ∷ text) = simp length-append (omega (arith, hex_length text))
 
--- ---- a byte and a number, as the code puts their digits
+-- ---- a byte in two digits, as the code puts them
 
 pub hex_written : (byte x y : ℕ) {s t u : List ℕ} {at mid end : ℕ} → x ≡ digit (byte / 16) → y ≡ digit (byte % 16) → at ≤ length s
     → Writes (x ∷ []) s t at mid → Writes (y ∷ []) t u mid end → Writes (hex byte) s u at end
 hex_written byte x y e f room a b = writes_then room (rw e at a) (rw f at b)
-
-pub item_written : (n end : ℕ) {s t u : List ℕ} {at mid stop : ℕ} → at ≤ length s
-    → Writes (decimal n) s t at mid → Writes (end ∷ []) t u mid stop → Writes (item n end) s u at stop
-unfolding item
-item_written n end room a b = writes_then room a b
 
 -- ---- text and hex, from a place on
 
@@ -71,14 +65,16 @@ item_written n end room a b = writes_then room a b
 abbrev pub Leads : List ℕ → List ℕ → ℕ → List ℕ → List ℕ → ℕ → Type 0
 Leads whole o₀ at rest o end = (s : List ℕ) (next : ℕ) → Writes rest o s end next → Writes whole o₀ s at next
 
--- nothing is left of a text at its end
-pub text_none : (text s : List ℕ) (from at : ℕ) → length text ≤ from → Writes (drop from text) s s at at
-text_none text s from at h = rw (drop_of_length-le text h) (writes_none s at)
-
--- one byte, and then what is behind it
-pub text_more : (text : List ℕ) (from : ℕ) {s t u : List ℕ} {at mid end : ℕ} → from < length text → at ≤ length s
-    → Writes (get_or text from 0 ∷ []) s t at mid → Writes (drop (from + 1) text) t u mid end → Writes (drop from text) s u at end
-text_more text from h room a b = rw (drop_one text from h) (writes_then room a b)
+-- a copied text is a run of its bytes
+pub copied : (text now s : List ℕ) (at k : ℕ) → k ≡ length text → now ≡ text
+    → Writes text s (take at s ++ (now ++ drop k (drop at s))) at (at + length text)
+unfolding written
+copied text now s at k e f =
+    record {
+      place = refl;
+      out = ap (λ l. take at s ++ (l ++ drop k (drop at s))) f ∙ ap (λ l. take at s ++ (text ++ l)) (drop-drop k at s ∙ ap (λ n. drop (at + n) s) e)
+          ∙ sym (append_assoc (take at s) text (drop (at + length text) s));
+    }
 
 pub hex_none : (text : List ℕ) (from : ℕ) {s t : List ℕ} {at end : ℕ} → length text ≤ from → Writes (newline ∷ []) s t at end
     → Writes (hex_line (drop from text)) s t at end
@@ -93,30 +89,50 @@ hex_more text from h room a b = rw (drop_one text from h) (writes_then room a b)
 
 -- ---- lines, as the code puts their parts
 
-pub word_written : (a b c d : ℕ) {s t u v w : List ℕ} {at p q r end : ℕ} → at ≤ length s → p ≤ length t → q ≤ length u
-    → Writes (item a space) s t at p → Writes (item b space) t u p q → Writes (item c space) u v q r
-    → Writes (item d newline) v w r end → Writes (word_line a b c d) s w at end
-unfolding word_line
-word_written a b c d h i j first second third last = writes_then h first (writes_then i second (writes_then j third last))
+-- numbers, each behind a space, and the line's end; and such a line from its first number on
+unfoldable pub more_line : List ℕ → List ℕ
+more_line [] = newline ∷ []
+more_line (n ∷ more) = space ∷ (decimal n ++ more_line more)
 
-pub done_written : (n : ℕ) {s t u : List ℕ} {at p end : ℕ} → at ≤ length s → Writes done_word s t at p
-    → Writes (item n newline) t u p end → Writes (done_line n) s u at end
-unfolding done_line
-done_written n h first last = writes_then h first last
+abbrev pub numbers_line : ℕ → List ℕ → List ℕ
+numbers_line first more = decimal first ++ more_line more
 
-pub stuck_written : (n : ℕ) {s t u : List ℕ} {at p end : ℕ} → at ≤ length s → Writes stuck_word s t at p
-    → Writes (item n newline) t u p end → Writes (stuck_line n) s u at end
-unfolding stuck_line
-stuck_written n h first last = writes_then h first last
+pub more_none : (numbers : List ℕ) (from : ℕ) {s t : List ℕ} {at end : ℕ} → length numbers ≤ from → Writes (newline ∷ []) s t at end
+    → Writes (more_line (drop from numbers)) s t at end
+unfolding more_line
+more_none numbers from h a = rw (drop_of_length-le numbers h) a
 
-pub refused_written : (r : Refusal) (x y : ℕ) {s t u v : List ℕ} {at p q end : ℕ} → x ≡ number r → y ≡ place r
-    → at ≤ length s → p ≤ length t → Writes refused_word s t at p → Writes (item x space) t u p q
-    → Writes (item y newline) u v q end → Writes (refused_line r) s v at end
-unfolding refused_line
-refused_written r x y e f h i first second last = writes_then h first (writes_then i (rw e at second) (rw f at last))
+pub more_more : (numbers : List ℕ) (from : ℕ) {s t u v : List ℕ} {at p q end : ℕ} → from < length numbers → at ≤ length s → p ≤ length t
+    → Writes (space ∷ []) s t at p → Writes (decimal (get_or numbers from 0)) t u p q → Writes (more_line (drop (from + 1) numbers)) u v q end
+    → Writes (more_line (drop from numbers)) s v at end
+unfolding more_line
+more_more numbers from h i j a b c = rw (drop_one numbers from h) (writes_then i a (writes_then j b c))
 
-pub differs_written : (a b c : ℕ) {s t u v w : List ℕ} {at p q r end : ℕ} → at ≤ length s → p ≤ length t → q ≤ length u
-    → Writes differs_word s t at p → Writes (item a space) t u p q → Writes (item b space) u v q r
-    → Writes (item c newline) v w r end → Writes (differs_line a b c) s w at end
-unfolding differs_line
-differs_written a b c h i j first second third last = writes_then h first (writes_then i second (writes_then j third last))
+-- each line is its word, if it has one, and then such numbers
+pub word_numbers : (a b c d : ℕ) → numbers_line a (b ∷ c ∷ d ∷ []) ≡ word_line a b c d
+unfolding word_line item more_line
+word_numbers a b c d = simp append_assoc
+
+pub done_numbers : (n : ℕ) → done_word ++ numbers_line n [] ≡ done_line n
+unfolding done_line item more_line
+done_numbers n = refl
+
+pub stuck_numbers : (n : ℕ) → stuck_word ++ numbers_line n [] ≡ stuck_line n
+unfolding stuck_line item more_line
+stuck_numbers n = refl
+
+pub refused_numbers : (r : Refusal) (x y : ℕ) → x ≡ number r → y ≡ place r → refused_word ++ numbers_line x (y ∷ []) ≡ refused_line r
+unfolding refused_line item more_line
+refused_numbers r x y e f = rw (e, f) (simp append_assoc)
+
+pub differs_numbers : (a b c : ℕ) → differs_word ++ numbers_line a (b ∷ c ∷ []) ≡ differs_line a b c
+unfolding differs_line item more_line
+differs_numbers a b c = simp append_assoc
+
+-- a run told in another way, and two runs one after the other
+pub writes_as : {v w s t : List ℕ} {at end : ℕ} → v ≡ w → Writes v s t at end → Writes w s t at end
+writes_as {s = s} {t = t} {at = at} {end = end} e a = subst (λ x. Writes x s t at end) e a
+
+pub writes_parts : {v w line s t u : List ℕ} {at mid end : ℕ} → v ++ w ≡ line → at ≤ length s → Writes v s t at mid → Writes w t u mid end
+    → Writes line s u at end
+writes_parts e h a b = writes_as e (writes_then h a b)

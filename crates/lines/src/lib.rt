@@ -5,7 +5,8 @@
 ghost use Rattle.std.specs.Prelude.{◌+◌, ◌-◌, ◌*◌, ◌<◌, ◌≤◌, ◌≡◌, [], ◌∷◌, length, drop};
 ghost use Rattle.number.specs.Lists.{Writes};
 ghost use Rattle.lines.specs.Digits.{digit as digit_of, decimal, hex};
-ghost use Rattle.lines.specs.Lines.{item, word_line, done_line, stuck_line, refused_line, same_line, differs_line, hex_line};
+ghost use Rattle.lines.specs.LineLaws.{numbers_line};
+ghost use Rattle.lines.specs.Lines.{word_line, done_line, stuck_line, refused_line, same_line, differs_line, hex_line};
 ghost use Rattle.lines.specs.Lines.{line_room, item_room};
 
 use number::Refusal;
@@ -13,9 +14,10 @@ use number::Refusal;
 // What a line of the programs needs at most, so that a caller can see whether a buffer has room for one more.
 pub const LINE_ROOM: usize = 100;
 
-const SPACE: u8 = 32;
+const SPACE: u8 = b' ';
 
-const NEWLINE: u8 = 10;
+// What ends each line.
+pub const NEWLINE: u8 = b'\n';
 
 const TEN: usize = 10;
 
@@ -52,6 +54,7 @@ pub fn put_decimal(n: usize, out: &mut [u8], at: usize) -> usize
     let mut digits = [0u8; DIGITS];
     let mut from = DIGITS;
     let mut rest = n;
+    // Kept as a `while`, since only the division tells how many digits there are.
     while rest >= TEN {
         from -= 1;
         digits[from] = digit(rest % TEN);
@@ -59,7 +62,7 @@ pub fn put_decimal(n: usize, out: &mut [u8], at: usize) -> usize
     }
     from -= 1;
     digits[from] = digit(rest);
-    put_text(&digits, from, out, at)
+    put_text(&digits[from..], out, at)
 }
 
 // A byte in two hexadecimal digits.
@@ -72,28 +75,28 @@ fn put_hex(byte: u8, out: &mut [u8], at: usize) -> usize
     put_byte(digit(b % SIXTEEN), out, last)
 }
 
-// The bytes of a text from a place on.
-fn put_text(text: &[u8], from: usize, out: &mut [u8], at: usize) -> usize
-    requires { at + (length text.now - from) ≤ length out.old }
-    ensures { Writes (drop from text.now) out.old out.new at result }
+// A whole text.
+pub fn put_text(text: &[u8], out: &mut [u8], at: usize) -> usize
+    requires { at + length text.now ≤ length out.old }
+    ensures { Writes text.now out.old out.new at result }
 {
-    let mut i = from;
-    let mut end = at;
-    while i < text.len() {
-        end = put_byte(text[i], out, end);
-        i += 1;
-    }
+    let end = at + text.len();
+    out[at..end].copy_from_slice(text);
     end
 }
 
-// A number and the byte that ends it.
-fn put_item(n: usize, end: u8, out: &mut [u8], at: usize) -> usize
-    requires { at + item_room ≤ length out.old }
-    ensures writes { Writes (item n end) out.old out.new at result }
-    ensures upper_bound { result ≤ at + item_room }
+// A number, others each behind a space, and the line's end.
+fn put_numbers(first: usize, more: &[usize], out: &mut [u8], at: usize) -> usize
+    requires { at + item_room * (length more.now + 1) ≤ length out.old }
+    ensures writes { Writes (numbers_line first more.now) out.old out.new at result }
+    ensures upper_bound { result ≤ at + item_room * (length more.now + 1) }
 {
-    let after = put_decimal(n, out, at);
-    put_byte(end, out, after)
+    let mut next = put_decimal(first, out, at);
+    for n in more {
+        let number = put_byte(SPACE, out, next);
+        next = put_decimal(*n, out, number);
+    }
+    put_byte(NEWLINE, out, next)
 }
 
 // A word.
@@ -109,10 +112,7 @@ pub fn put_word(
     ensures writes { Writes (word_line start len rule kind) out.old out.new at result }
     ensures upper_bound { result ≤ at + line_room }
 {
-    let at_len = put_item(start, SPACE, out, at);
-    let at_rule = put_item(len, SPACE, out, at_len);
-    let at_kind = put_item(rule, SPACE, out, at_rule);
-    put_item(kind, NEWLINE, out, at_kind)
+    put_numbers(start, &[len, rule, kind], out, at)
 }
 
 // The last line of a text that was cut to its end.
@@ -121,8 +121,8 @@ pub fn put_done(count: usize, out: &mut [u8], at: usize) -> usize
     ensures writes { Writes (done_line count) out.old out.new at result }
     ensures upper_bound { result ≤ at + line_room }
 {
-    let at_count = put_text(b"done ", 0, out, at);
-    put_item(count, NEWLINE, out, at_count)
+    let first = put_text(b"done ", out, at);
+    put_numbers(count, &[], out, first)
 }
 
 // The last line of a text that got stuck.
@@ -131,8 +131,8 @@ pub fn put_stuck(place: usize, out: &mut [u8], at: usize) -> usize
     ensures writes { Writes (stuck_line place) out.old out.new at result }
     ensures upper_bound { result ≤ at + line_room }
 {
-    let at_place = put_text(b"stuck ", 0, out, at);
-    put_item(place, NEWLINE, out, at_place)
+    let first = put_text(b"stuck ", out, at);
+    put_numbers(place, &[], out, first)
 }
 
 // A refusal.
@@ -143,9 +143,8 @@ pub fn put_refused(r: Refusal, out: &mut [u8], at: usize) -> usize
 {
     let number = number::refusal_number(r);
     let place = number::refusal_place(r);
-    let at_number = put_text(b"refused ", 0, out, at);
-    let at_place = put_item(number, SPACE, out, at_number);
-    put_item(place, NEWLINE, out, at_place)
+    let first = put_text(b"refused ", out, at);
+    put_numbers(number, &[place], out, first)
 }
 
 // A comparison that found no difference.
@@ -154,7 +153,7 @@ pub fn put_same(out: &mut [u8], at: usize) -> usize
     ensures writes { Writes same_line out.old out.new at result }
     ensures upper_bound { result ≤ at + line_room }
 {
-    put_text(b"same\n", 0, out, at)
+    put_text(b"same\n", out, at)
 }
 
 // A difference: the length of the text that shows it, and both labels.
@@ -163,10 +162,8 @@ pub fn put_differs(len: usize, book: usize, sheet: usize, out: &mut [u8], at: us
     ensures writes { Writes (differs_line len book sheet) out.old out.new at result }
     ensures upper_bound { result ≤ at + line_room }
 {
-    let at_len = put_text(b"differs ", 0, out, at);
-    let at_book = put_item(len, SPACE, out, at_len);
-    let at_sheet = put_item(book, SPACE, out, at_book);
-    put_item(sheet, NEWLINE, out, at_sheet)
+    let first = put_text(b"differs ", out, at);
+    put_numbers(len, &[book, sheet], out, first)
 }
 
 // The bytes of a text from a place on, in hexadecimal, and the line's end.
@@ -175,11 +172,9 @@ pub fn put_hex_line(text: &[u8], from: usize, out: &mut [u8], at: usize) -> usiz
     ensures writes { Writes (hex_line (drop from text.now)) out.old out.new at result }
     ensures upper_bound { result ≤ at + (2 * (length text.now - from) + 1) }
 {
-    let mut i = from;
     let mut end = at;
-    while i < text.len() {
+    for i in from..text.len() {
         end = put_hex(text[i], out, end);
-        i += 1;
     }
     put_byte(NEWLINE, out, end)
 }

@@ -1,6 +1,7 @@
 -- What a byte of typed rules is, as the code asks it.
--- A digit's value is a number that no digit has where the byte is none.
-use Rattle.std.specs.Prelude.{ℕ, Bool, ◌||◌, List, eqb, get_or}
+-- The definitions have an Option of their own; the code answers that of Rust.
+use Rattle.std.specs.Prelude.{ℕ, Bool, ◌||◌, List, eqb, get_or, Some, None}
+use Rattle.std.specs.Prelude.{Option as Answer}
 use Rattle.std.proofs.Math.Option.{Option}
 use Rattle.std.proofs.Math.Option.Option.{none, some}
 use Rattle.typed.specs.Spells.{bare}
@@ -16,10 +17,7 @@ starting c = eqb c 40 || (eqb c 60 || (eqb c 92 || (eqb c 46 || bare c)))
 unfoldable pub marking : ℕ → Bool
 marking c = eqb c 42 || (eqb c 43 || eqb c 63)
 
-abbrev pub hex_number : Option ℕ → ℕ
-hex_number none = 16
-hex_number (some x) = x
-
-abbrev pub digit_number : Option ℕ → ℕ
-digit_number none = 10
-digit_number (some x) = x
+-- what the definitions find, as the code answers it
+abbrev pub found : Option ℕ → Answer ℕ
+found none = None
+found (some x) = Some x

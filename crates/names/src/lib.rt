@@ -2,208 +2,114 @@
 // Nothing here changes memory; a name is found by comparing a part of the text with each of them.
 #![tactic(auto)]
 
-ghost use Rattle.std.specs.Prelude.{◌≡◌, ◌<◌, ◌≤◌, length, get_or};
-ghost use Rattle.std.proofs.Math.Seq.{slice};
+ghost use Rattle.std.specs.Prelude.{◌≡◌, ◌<◌, ◌≤◌, MatchOption, ⊤, length};
 ghost use Rattle.typed.specs.Spells.{bare, hex};
 ghost use Rattle.typed.specs.Lines.{digit};
 ghost use Rattle.typed.specs.Sets.{sets, named};
 ghost use Rattle.typed.specs.Reader.{known as known_of};
 ghost use Rattle.laid.specs.Tables.{set_at};
-ghost use Rattle.names.specs.Bytes.{byte_at, starting, marking, hex_number, digit_number};
-ghost use Rattle.names.specs.Names.{names, match_number, known_number};
+ghost use Rattle.names.specs.Bytes.{byte_at, starting, marking, found};
+ghost use Rattle.names.specs.Names.{told};
 
 pub const NEWLINE: u8 = 10;
 
-// The value of a byte that is no digit.
-pub const NO_HEX: u8 = 16;
-
-pub const NO_DIGIT: usize = 10;
-
-// How many sets there are; the answers for a part that begins a name and for one that begins none come after their numbers.
-pub const SETS: usize = 12;
-
-pub const BEGUN: usize = SETS;
-
-const UNKNOWN: usize = SETS + 1;
-
-// The names of the sets with the bracket that ends them, seven bytes for each.
-const NAMES: [u8; 84] = [
-    b'a', b'l', b'n', b'u', b'm', b'>', 0, b'a', b'l', b'p', b'h', b'a', b'>', 0, b'b', b'l', b'a',
-    b'n', b'k', b'>', 0, b'c', b'n', b't', b'r', b'l', b'>', 0, b'd', b'i', b'g', b'i', b't', b'>',
-    0, b'g', b'r', b'a', b'p', b'h', b'>', 0, b'l', b'o', b'w', b'e', b'r', b'>', 0, b'p', b'r',
-    b'i', b'n', b't', b'>', 0, b'p', b'u', b'n', b'c', b't', b'>', 0, b's', b'p', b'a', b'c', b'e',
-    b'>', 0, b'u', b'p', b'p', b'e', b'r', b'>', 0, b'x', b'd', b'i', b'g', b'i', b't', b'>',
+// The names of the twelve sets, with the bracket that ends them.
+const NAMES: [&[u8]; 12] = [
+    b"alnum>", b"alpha>", b"blank>", b"cntrl>", b"digit>", b"graph>", b"lower>", b"print>",
+    b"punct>", b"space>", b"upper>", b"xdigit>",
 ];
 
-const WIDTH: usize = 7;
+// What a part of a text is to the names: it begins none, it begins one, or it is that of a set, told by its number.
+#[derive(Clone, Copy, PartialEq, Eq)]
+pub enum Naming {
+    Unknown,
+    Begun,
+    Whole(usize),
+}
 
 // The byte at a place; a newline past the end, where no expression goes on either.
+#[tactic(auto, using(crate::specs::ByteLaws::byte_inside, crate::specs::ByteLaws::byte_past))]
 pub fn byte_at(text: &[u8], at: usize) -> u8
     ensures { result ≡ byte_at text.now at }
 {
-    if at < text.len() {
-        return text[at];
+    match text.get(at) {
+        Some(c) => *c,
+        None => NEWLINE,
     }
-    NEWLINE
 }
 
 // A letter, a digit or a space, which stands for itself.
+#[tactic(auto, using(crate::specs::ByteLaws::bare_digit, crate::specs::ByteLaws::bare_capital, crate::specs::ByteLaws::bare_small, crate::specs::ByteLaws::bare_space, crate::specs::ByteLaws::bare_no))]
 pub fn is_bare(c: u8) -> bool
     ensures { result ≡ bare c }
 {
-    if c < b' ' {
-        return false;
-    }
-    if c == b' ' {
-        return true;
-    }
-    if c < b'0' {
-        return false;
-    }
-    if c <= b'9' {
-        return true;
-    }
-    if c < b'A' {
-        return false;
-    }
-    if c <= b'Z' {
-        return true;
-    }
-    if c < b'a' {
-        return false;
-    }
-    if c <= b'z' {
-        return true;
-    }
-    false
+    matches!(c, b' ' | b'0'..=b'9' | b'A'..=b'Z' | b'a'..=b'z')
 }
 
 // A byte that an atom begins with.
+#[tactic(auto, using(crate::specs::ByteLaws::starting_round, crate::specs::ByteLaws::starting_angle, crate::specs::ByteLaws::starting_slash, crate::specs::ByteLaws::starting_dot, crate::specs::ByteLaws::starting_bare))]
 pub fn begins_atom(c: u8) -> bool
     ensures { result ≡ starting c }
 {
-    if c == b'(' {
-        return true;
+    match c {
+        b'(' | b'<' | b'\\' | b'.' => true,
+        _ => is_bare(c),
     }
-    if c == b'<' {
-        return true;
-    }
-    if c == b'\\' {
-        return true;
-    }
-    if c == b'.' {
-        return true;
-    }
-    is_bare(c)
 }
 
 // One of * + ?
+#[tactic(auto, using(crate::specs::ByteLaws::marking_many, crate::specs::ByteLaws::marking_more, crate::specs::ByteLaws::marking_perhaps, crate::specs::ByteLaws::marking_no))]
 pub fn is_mark(c: u8) -> bool
     ensures { result ≡ marking c }
 {
-    if c == b'*' {
-        return true;
-    }
-    if c == b'+' {
-        return true;
-    }
-    c == b'?'
+    matches!(c, b'*' | b'+' | b'?')
 }
 
 // A hex digit's value, of either case.
-pub fn hex_of(c: u8) -> u8
-    ensures { (result ≡ hex_number (hex c)) × (result ≤ 16) }
+#[tactic(auto, using(crate::specs::ByteLaws::hex_digit, crate::specs::ByteLaws::hex_capital, crate::specs::ByteLaws::hex_small, crate::specs::ByteLaws::hex_no))]
+pub fn hex_of(c: u8) -> Option<u8>
+    ensures value { result ≡ found (hex c) }
+    ensures small { MatchOption result ⊤ (λ x. x < 16) }
 {
-    if c < b'0' {
-        return NO_HEX;
+    match c {
+        b'0'..=b'9' => Some(c - 48),
+        b'A'..=b'F' => Some(c - 55),
+        b'a'..=b'f' => Some(c - 87),
+        _ => None,
     }
-    if c <= b'9' {
-        return c - 48;
-    }
-    if c < b'A' {
-        return NO_HEX;
-    }
-    if c <= b'F' {
-        return c - 55;
-    }
-    if c < b'a' {
-        return NO_HEX;
-    }
-    if c <= b'f' {
-        return c - 87;
-    }
-    NO_HEX
 }
 
 // A decimal digit's value.
-pub fn digit_of(c: u8) -> usize
-    ensures { (result ≡ digit_number (digit c)) × (result ≤ 10) }
+#[tactic(auto, using(crate::specs::ByteLaws::digit_yes, crate::specs::ByteLaws::digit_no))]
+pub fn digit_of(c: u8) -> Option<usize>
+    ensures value { result ≡ found (digit c) }
+    ensures small { MatchOption result ⊤ (λ x. x < 10) }
 {
-    if c < b'0' {
-        return NO_DIGIT;
+    match c {
+        b'0'..=b'9' => Some((c - 48) as usize),
+        _ => None,
     }
-    if c <= b'9' {
-        return (c - 48) as usize;
-    }
-    NO_DIGIT
 }
 
-fn name_byte(i: usize) -> u8
-    requires { i < 84 }
-    ensures { result ≡ get_or names i 0 }
-{
-    NAMES[i]
-}
-
-fn name_length(k: usize) -> usize
+fn name_of(k: usize) -> &'static [u8]
     requires { k < length sets }
-    ensures { (result ≡ length (named (set_at k))) × (result ≤ 7) }
+    ensures { result.now ≡ named (set_at k) }
 {
-    if k == 11 {
-        return 7;
-    }
-    6
+    NAMES[k]
 }
 
-// Whether a part of the text begins a name (1), is all of it (2), or neither (0).
-fn match_name(text: &[u8], from: usize, to: usize, k: usize) -> u8
-    requires { (k < length sets) × (from ≤ to) × (to ≤ length text.now) }
-    ensures { result ≡ match_number (slice from to text.now) (set_at k) }
+// What a part of a text is to the names, of which the first that it begins counts.
+pub fn known(part: &[u8]) -> Naming
+    ensures { result ≡ told (known_of part.now sets) }
 {
-    let n = to - from;
-    let m = name_length(k);
-    if m < n {
-        return 0;
-    }
-    let mut i = 0;
-    while i < n {
-        let x = name_byte(k * WIDTH + i);
-        if x != text[from + i] {
-            return 0;
+    for k in 0..NAMES.len() {
+        let name = name_of(k);
+        if name.starts_with(part) {
+            if name.len() == part.len() {
+                return Naming::Whole(k);
+            }
+            return Naming::Begun;
         }
-        i = i + 1;
     }
-    if n < m {
-        return 1;
-    }
-    2
-}
-
-// The set that a part of the text names, by its number; or that it begins a name; or that it begins none.
-pub fn known(text: &[u8], from: usize, to: usize) -> usize
-    requires { (from ≤ to) × (to ≤ length text.now) }
-    ensures { result ≡ known_number (known_of (slice from to text.now) sets) }
-{
-    let mut k = 0;
-    while k < SETS {
-        let m = match_name(text, from, to, k);
-        if m == 2 {
-            return k;
-        }
-        if m == 1 {
-            return BEGUN;
-        }
-        k = k + 1;
-    }
-    UNKNOWN
+    Naming::Unknown
 }

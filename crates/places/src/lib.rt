@@ -3,116 +3,71 @@
 #![tactic(auto)]
 
 ghost use Rattle.std.specs.Prelude.{◌≡◌};
-ghost use Rattle.book.specs.Answers.{place_read, read_head, find_rule, find_from, nowhere as no_place, place_of};
+ghost use Rattle.book.specs.Answers.{place_read, read_head, find_rule, find_from, place_of};
 ghost use Rattle.book.specs.Promises.{TellsKind};
 
-use book::{Checked, PlaceRead, RuleKind, RulePlace, refusal_of};
+use book::RulePlace;
 use checking::{check_book, check_nodes};
 use number::limits::{FIRST_VERSION, KINDS, LAST_VERSION, NODES, RULES};
-use number::{Taken, read_field};
+use number::{Refusal, read_field};
 
-// The kind of a rule. Past the check the rule is found; a refusal would still be told with its place.
-pub fn rule_kind(book: &[u8], rule: usize) -> RuleKind
+// The kind of a rule, or none where the book has no such rule. Past the check the rule is found; a refusal would still be told with its place.
+pub fn rule_kind(book: &[u8], rule: usize) -> Result<Option<usize>, Refusal>
     ensures { TellsKind book.now rule result }
 {
-    let counted = check_book(book);
-    match counted {
-        Checked::Refused(r) => RuleKind::Unknown(r),
-        Checked::Counts(n, _) => {
-            if n <= rule {
-                return RuleKind::NoRule;
-            }
-            let place = find_from(book, rule);
-            match place {
-                PlaceRead::Refused(r) => RuleKind::Unknown(r),
-                PlaceRead::Place(p) => RuleKind::Kind(p.kind),
-            }
-        }
+    let (rules, _) = check_book(book)?;
+    if rules <= rule {
+        return Ok(None);
     }
+    let place = find_from(book, rule)?;
+    Ok(Some(place.kind))
 }
 
-// Where a rule's nodes begin, for the layers that read them one by one; all 0 where the book has no such rule or is refused.
-pub fn rule_place(book: &[u8], rule: usize) -> RulePlace
+// Where a rule's nodes begin, for the layers that read them one by one; none where the book has no such rule or is refused.
+pub fn rule_place(book: &[u8], rule: usize) -> Option<RulePlace>
     ensures { result ≡ place_of book.now rule }
 {
-    let counted = check_book(book);
-    let Checked::Counts(n, _) = counted else {
-        return nowhere();
-    };
-    if n <= rule {
-        return nowhere();
+    let (rules, _) = check_book(book).ok()?;
+    if rules <= rule {
+        return None;
     }
-    let place = find_from(book, rule);
-    match place {
-        PlaceRead::Place(p) => p,
-        PlaceRead::Refused(_) => nowhere(),
-    }
-}
-
-// The place of no rule.
-fn nowhere() -> RulePlace
-    ensures { result ≡ no_place }
-{
-    RulePlace {
-        version: 0,
-        kind: 0,
-        nodes: 0,
-        at: 0,
-    }
+    find_from(book, rule).ok()
 }
 
 // The kind and the node count of the rule at a place of a book of that version, and where its nodes begin.
-fn read_head(book: &[u8], at: usize, version: usize) -> PlaceRead
+#[tactic(auto, unfolding(book::specs::Answers::read_head))]
+fn read_head(book: &[u8], at: usize, version: usize) -> Result<RulePlace, Refusal>
     ensures { place_read result ≡ read_head book.now version at }
 {
-    let kind = read_field(book, at, 0, KINDS);
-    let Taken::Value(k, at_count) = kind else {
-        return PlaceRead::Refused(refusal_of(kind));
-    };
-    let count = read_field(book, at_count, 1, NODES);
-    let Taken::Value(m, first) = count else {
-        return PlaceRead::Refused(refusal_of(count));
-    };
-    PlaceRead::Place(RulePlace {
+    let (kind, at_count) = read_field(book, at, 0, KINDS)?;
+    let (nodes, first) = read_field(book, at_count, 1, NODES)?;
+    Ok(RulePlace {
         version,
-        kind: k,
-        nodes: m,
+        kind,
+        nodes,
         at: first,
     })
 }
 
 // The rule that stands so many rules further on.
-fn find_rule(book: &[u8], at: usize, version: usize, left: usize) -> PlaceRead
+fn find_rule(book: &[u8], at: usize, version: usize, left: usize) -> Result<RulePlace, Refusal>
     ensures { place_read result ≡ find_rule book.now version left at }
 {
     let mut place = at;
-    let mut more = left;
-    while 0 < more {
-        let head = read_head(book, place, version);
-        let PlaceRead::Place(p) = head else {
-            return head;
-        };
-        let nodes = check_nodes(book, p.at, version, p.nodes);
-        let Taken::Value(_, next) = nodes else {
-            return PlaceRead::Refused(refusal_of(nodes));
-        };
-        more -= 1;
+    for _ in 0..left {
+        let head = read_head(book, place, version)?;
+        let (_, next) = check_nodes(book, head.at, version, head.nodes)?;
         place = next;
     }
     read_head(book, place, version)
 }
 
 // A rule of a whole book, by its number.
-fn find_from(book: &[u8], rule: usize) -> PlaceRead
+#[tactic(auto, unfolding(book::specs::Answers::find_from))]
+fn find_from(book: &[u8], rule: usize) -> Result<RulePlace, Refusal>
     ensures { place_read result ≡ find_from book.now rule 0 }
 {
-    let version = read_field(book, 0, FIRST_VERSION, LAST_VERSION);
-    let Taken::Value(v, at_rules) = version else {
-        return PlaceRead::Refused(refusal_of(version));
-    };
-    let rules = read_field(book, at_rules, 1, RULES);
-    let Taken::Value(_, first) = rules else {
-        return PlaceRead::Refused(refusal_of(rules));
-    };
-    find_rule(book, first, v, rule)
+    let (version, at_rules) = read_field(book, 0, FIRST_VERSION, LAST_VERSION)?;
+    let (_, first) = read_field(book, at_rules, 1, RULES)?;
+    find_rule(book, first, version, rule)
 }

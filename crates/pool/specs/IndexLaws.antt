@@ -1,6 +1,6 @@
 -- Laws of the index: going along a chain finds a node or shows that no cell holds it, and a new cell goes to the front of its chain.
 -- What the cells from top on hold does not matter to an index.
-use Rattle.std.specs.Prelude.{ℕ, ◌+◌, ◌-◌, ◌<◌, ◌≤◌, ◌≡◌, List, ◌≢◌, get_or, set, replicate}
+use Rattle.std.specs.Prelude.{ℕ, ◌+◌, ◌-◌, ◌<◌, ◌≤◌, ◌≡◌, Some, None, List, ◌≢◌, get_or, set, replicate}
 use Rattle.std.proofs.Common.{arith, sym, ap, ◌∙◌, length-set, get_or-set_same, get_or-set_other}
 use Rattle.std.proofs.Math.Decide.{dec_lt, ℕ_discrete}
 use Rattle.std.proofs.lemmas.List.{length-replicate, get_or-replicate}
@@ -94,16 +94,15 @@ module _ (x s : List ℕ) (top : ℕ) (u : Term) (i : Indexed x s top) where
 pub chain_inside : {s : List ℕ} {top : ℕ} {u : Term} {v : ℕ} → Chain s top u v → v ≤ top
 chain_inside c = omega (arith, c.next.most, c.within)
 
-pub chain_found : {s : List ℕ} {top : ℕ} {u : Term} {v : ℕ} → Chain s top u v → 0 < v → node_of (get_or s (v - 1) 0) ≡ u → Looked s top u (v - 1)
-chain_found c h e =
-    let m = chain_inside c in record { within = omega arith; there = λ k. e; absent = λ k l j. omega arith }
+pub chain_found : {s : List ℕ} {top : ℕ} {u : Term} {v : ℕ} → Chain s top u v → 0 < v → node_of (get_or s (v - 1) 0) ≡ u → Looked s top u (Some (v - 1))
+chain_found c h e = let m = chain_inside c in record { within = omega arith; there = e; absent = tt }
 
-pub chain_end : {s : List ℕ} {top : ℕ} {u : Term} {v : ℕ} → Chain s top u v → v ≡ 0 → Looked s top u top
+pub chain_end : {s : List ℕ} {top : ℕ} {u : Term} {v : ℕ} → Chain s top u v → v ≡ 0 → Looked s top u None
 chain_end {s} {top} {u} {v} c z =
     record {
-      within = omega arith;
-      there = λ k. absurd (omega arith);
-      absent = λ h k l e. elim (dec_lt k c.end) [
+      within = tt;
+      there = tt;
+      absent = λ k l e. elim (dec_lt k c.end) [
         | yes near ↦ c.next.after k (omega arith) near (ap hash_of e)
         | no far ↦ c.none k (omega arith) l e
       ];

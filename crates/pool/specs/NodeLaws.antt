@@ -3,14 +3,14 @@
 use Prim.Native.Nat.{ℕ, suc, ◌+◌, ◌<◌, ◌≤◌}
 use native.Mathlib.Omega.{arith}
 use Rattle.std.proofs.Math.Decide.{dec_lt}
-use Rattle.std.specs.Prelude.{◌≡◌, Bool, true, ◌&&◌, List, [], ◌∷◌, ◌++◌, map, eqb, get_or, take, set}
+use Rattle.std.specs.Prelude.{◌≡◌, Bool, true, Some, None, List, [], ◌∷◌, ◌++◌, map, get_or, take, set}
 use Rattle.std.proofs.Math.Path.{refl, sym, ap}
-use Rattle.std.proofs.Common.{◌∙◌, eqb-true, eq-eqb, ne_eqb}
+use Rattle.std.proofs.Common.{◌∙◌}
 use Rattle.std.proofs.Math.Bool.{false}
 use Rattle.meaning.specs.Re.{Re, bounds, parts}
 use Rattle.meaning.specs.PartLaws.{All}
 use Rattle.meaning.specs.Order.{rank}
-use Rattle.meaning.specs.Tests.{clash, and_true, true_and}
+use Rattle.meaning.specs.Tests.{clash}
 use Rattle.term.specs.declared.Term.{Term}
 use Rattle.term.specs.declared.Term.TheVariants.{Nothing, Empty, Range, Cat, Alt, Star, And, Not}
 use Rattle.term.specs.Cells.{node_of, grow, term, Below}
@@ -21,7 +21,7 @@ use Rattle.walk.specs.Parts.{holds, with_term, InPool}
 use Rattle.walk.specs.PartsLaws.{term_held, term_new}
 use Rattle.pool.specs.Pooled.{terms_of, Pooled}
 use Rattle.pool.specs.Index.{pool_cells, hash_of, Indexed, After}
-use Rattle.pool.specs.Steps.{same_node, Looked}
+use Rattle.pool.specs.Steps.{Looked}
 use Rattle.pool.specs.PoolLaws.{held_stands, term_held_below, terms_frame, same_number}
 use Rattle.pool.specs.IndexLaws.{indexed_more}
 
@@ -29,28 +29,6 @@ use Rattle.pool.specs.IndexLaws.{indexed_more}
 
 by_fields : (u w : Term) → kind_of u ≡ kind_of w → first_of u ≡ first_of w → second_of u ≡ second_of w → u ≡ w
 by_fields u w k a b = rebuild u ∙ rw (k, a, b) (sym (rebuild w))
-
--- the code's test of two nodes says equality
-pub node_same : (u w : Term) → same_node u w ≡ true → u ≡ w
-node_same u w e =
-    let p = and_true (eqb (kind_of u) (kind_of w)) (eqb (first_of u) (first_of w) && eqb (second_of u) (second_of w)) e in
-    let q = and_true (eqb (first_of u) (first_of w)) (eqb (second_of u) (second_of w)) p.1 in
-    by_fields u w (eqb-true (kind_of u) (kind_of w) p.0) (eqb-true (first_of u) (first_of w) q.0) (eqb-true (second_of u) (second_of w) q.1)
-
-pub node_self : (u w : Term) → u ≡ w → same_node u w ≡ true
-node_self u w e =
-    true_and (eq-eqb (kind_of u) (kind_of w) (ap kind_of e))
-    (true_and (eq-eqb (first_of u) (first_of w) (ap first_of e)) (eq-eqb (second_of u) (second_of w) (ap second_of e)))
-
--- the test's answer by its three comparisons, in their order
-pub other_kind : (u w : Term) → (kind_of u ≡ kind_of w → ⊥) → false ≡ same_node u w
-other_kind u w h = rw (ne_eqb (kind_of u) (kind_of w) h)
-
-pub other_first : (u w : Term) → kind_of u ≡ kind_of w → (first_of u ≡ first_of w → ⊥) → false ≡ same_node u w
-other_first u w e h = rw (eq-eqb (kind_of u) (kind_of w) e, ne_eqb (first_of u) (first_of w) h)
-
-pub by_second : (u w : Term) → kind_of u ≡ kind_of w → first_of u ≡ first_of w → {m n : ℕ} → m ≡ second_of u → n ≡ second_of w → eqb m n ≡ same_node u w
-by_second u w e f p q = rw (eq-eqb (kind_of u) (kind_of w) e, eq-eqb (first_of u) (first_of w) f, p, q)
 
 -- ---- nodes and terms
 
@@ -102,17 +80,17 @@ module _ (x s : List ℕ) (top : ℕ) (u : Term) (p : Pooled s top) (i : Indexed
       (below_more (node_of (get_or s k 0)) k top (p.sound.nodes k h) (omega arith)) (sym (term_node s top k p.sound h) ∙ e)
 
   -- the node was found: its term is held
-  pub put_old : (r : ℕ) → r < top → Looked s top u r
+  pub put_old : (r : ℕ) → Looked s top u (Some r)
       → After s top (with_term (terms_of s top) (grow u (term s))) x s r top (grow u (term s)) (top + 1)
-  put_old r h l =
-      let e = cell_term r h (l.there h) in
-      let held : InPool (terms_of s top) (grow u (term s)) = rw e at (term_held_below s top r h) in
+  put_old r l =
+      let e = cell_term r l.within l.there in
+      let held : InPool (terms_of s top) (grow u (term s)) = rw e at (term_held_below s top r l.within) in
       record {
         pool = record { sound = p.sound; holds = sym (term_held (terms_of s top) (grow u (term s)) held); once = p.once };
         indexed = i;
         up = omega arith;
         few = omega arith;
-        within = h;
+        within = l.within;
         is = e;
         same_length = refl;
         kept_below = λ i k. refl;
@@ -127,13 +105,13 @@ module _ (x s : List ℕ) (top : ℕ) (u : Term) (p : Pooled s top) (i : Indexed
       absurd (none t.at t.within (term_cell t.at t.within t.is))
   not_held none false e = e
 
-  pub put_new : (r : ℕ) (s' : List ℕ) (next : ℕ) → top ≤ r → Looked s top u r
+  pub put_new : (s' : List ℕ) (next : ℕ) → Looked s top u None
       → {hash : ℕ} → hash ≡ hash_of u → Held s top u (get_or x hash 0) s' next → top < pool_cells
       → After s top (with_term (terms_of s top) (grow u (term s))) (set x hash next) s' top next (grow u (term s)) (top + 1)
   unfolding terms_of
-  put_new r s' next h l at-hash n few =
+  put_new s' next l at-hash n few =
       let new : holds (terms_of s top) (grow u (term s)) ≡ false =
-      not_held (l.absent h) (holds (terms_of s top) (grow u (term s))) refl in
+      not_held l.absent (holds (terms_of s top) (grow u (term s))) refl in
       let g = n.makes.grown in
       let same : Same s s' top = g.kept_below in
       let at : next ≡ suc top = omega (arith, n.after) in

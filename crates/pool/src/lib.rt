@@ -2,42 +2,22 @@
 // A node is found along the chain of its hash.
 #![tactic(auto)]
 
-ghost use Rattle.std.specs.Prelude.{◌≡◌, ◌+◌, ◌≤◌, ◌<◌, length};
+ghost use Rattle.std.specs.Prelude.{◌≡◌, ◌+◌, ◌≤◌, length};
 ghost use Rattle.term.specs.Cells.{term, grow, Below};
 ghost use Rattle.term.specs.Nodes.{Fields};
 ghost use Rattle.walk.specs.Parts.{with_term};
 ghost use Rattle.pool.specs.Pooled.{terms_of};
 ghost use Rattle.pool.specs.Index.{hash_of, Indexed, Open, After};
-ghost use Rattle.pool.specs.Steps.{same_node, Looked};
+ghost use Rattle.pool.specs.Steps.{Looked};
 
 use number::limits::{POOL, RULES, TREE_NODES};
-use term::{Term, first_of, hold, kind_of, link_at, node_at, second_of};
+use term::{Built, Term, first_of, hold, kind_of, link_at, node_at, second_of};
 
 // The cells of a pool: what may be held, and one vector more that is not held yet.
 pub const POOL_CELLS: usize = POOL + RULES * TREE_NODES;
 
 // The length of its index: a head for each hash. The links of the chains stand in the cells.
 pub const HEADS: usize = POOL;
-
-// The cell of a term, and the next free cell.
-#[derive(Clone, Copy)]
-pub struct Placed {
-    pub root: usize,
-    pub top: usize,
-}
-
-// Two nodes of one kind with the same fields.
-fn same_node(x: Term, y: Term) -> bool
-    ensures { result ≡ same_node x y }
-{
-    if kind_of(x) != kind_of(y) {
-        return false;
-    }
-    if first_of(x) != first_of(y) {
-        return false;
-    }
-    second_of(x) == second_of(y)
-}
 
 // The hash of a node.
 fn hash_of(node: Term) -> usize
@@ -47,8 +27,8 @@ fn hash_of(node: Term) -> usize
     (kind_of(node) + 7 * first_of(node) + 61 * second_of(node)) % HEADS
 }
 
-// The cell below `top` that holds this node, looked for along the chain of its hash, or `top` where none does.
-fn find_cell(index: &[u16], cells: &[u64], top: usize, node: Term) -> usize
+// The cell below `top` that holds this node, looked for along the chain of its hash.
+fn find_cell(index: &[u16], cells: &[u64], top: usize, node: Term) -> Option<usize>
     requires indexed { Indexed index.now cells.now top }
     requires top_in_bounds { top ≤ length cells.now }
     requires fields { Fields node }
@@ -57,30 +37,29 @@ fn find_cell(index: &[u16], cells: &[u64], top: usize, node: Term) -> usize
     let mut next = index[hash_of(node)] as usize;
     while 0 < next {
         let at = next - 1;
-        if same_node(node_at(cells, at), node) {
-            return at;
+        if node_at(cells, at) == node {
+            return Some(at);
         }
         next = link_at(cells, at);
     }
-    top
+    None
 }
 
 // Puts a node whose children stand in the pool into the pool: in the cell that holds it already, or in a new one at the front of its chain.
-pub fn put_node(index: &mut [u16], cells: &mut [u64], top: usize, node: Term) -> Placed
+pub fn put_node(index: &mut [u16], cells: &mut [u64], top: usize, node: Term) -> Built
     requires fact { Open index.old cells.old top 1 }
     requires below { Below node top }
     ensures { After cells.old top (with_term (terms_of cells.old top) (grow node (term cells.old)))
         index.new cells.new result.root result.top (grow node (term cells.old)) (top + 1) }
 {
-    let at = find_cell(index, cells, top, node);
-    if at < top {
-        return Placed { root: at, top: top };
+    if let Some(root) = find_cell(index, cells, top, node) {
+        return Built { root, top };
     }
     let hash = hash_of(node);
     let link = index[hash] as usize;
     let next = hold(cells, top, node, link);
     index[hash] = next as u16;
-    Placed {
+    Built {
         root: top,
         top: next,
     }

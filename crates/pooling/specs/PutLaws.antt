@@ -3,7 +3,7 @@
 use Rattle.std.specs.Prelude.{ℕ, ◌+◌, ◌-◌, ◌<◌, ◌≤◌, ◌≡◌, refl, length, get_or, take, set, drop}
 use native.Mathlib.Omega.{arith}
 use Rattle.std.proofs.Math.Path.{sym}
-use Rattle.std.proofs.Common.{ap, ◌∙◌, length-set, drop-set-lt, below_more, lt-ltb, le-ltb}
+use Rattle.std.proofs.Common.{ap, ◌∙◌, length-set, length-take-le, get_or-take, drop-set-lt, below_more, lt-ltb, le-ltb}
 use mathlib.Core.List.{List, [], ◌∷◌, map}
 use Rattle.meaning.specs.Re.{Re, size}
 use Rattle.meaning.specs.PartLaws.{All}
@@ -21,7 +21,7 @@ use Rattle.pool.specs.Index.{After, Put, Open}
 use Rattle.pool.specs.PoolLaws.{pool_as, term_held_below}
 use Rattle.pool.specs.IndexLaws.{open_less, open_after}
 use Rattle.pool.specs.ClosedLaws.{pool_closed}
-use Rattle.pooling.specs.Postfix.{waits, takes, all_wait, all_take, Fit, Runs, nodes_from}
+use Rattle.pooling.specs.Postfix.{waits, takes, all_wait, all_take, Fit, Low, Runs, nodes_from}
 use Rattle.pooling.specs.Copied.{Copied, Taken, Rooted, Putting}
 use Rattle.pooling.specs.PostfixLaws.{all_length, nodes_at_lem, nodes_none}
 
@@ -87,6 +87,38 @@ module _ (base child : ℕ) (o : List ℕ) (n : ℕ) where
             (cc, cc);
         low = λ top k l. l (n - 1) (omega arith);
       }
+
+-- a stack in the front of a longer list
+module _ (o o' : List ℕ) {n : ℕ} (same : (j : ℕ) → j < n → get_or o' j 0 ≡ get_or o j 0) where
+  terms_there : (g : ℕ → Re) (m : ℕ) → m ≤ n → terms_at g o' m ≡ terms_at g o m
+  terms_there g m l = terms_same g g o o' m (λ j h. ap g (same j (omega arith)))
+
+  low_there : (top : ℕ) → Low o' n top → Low o n top
+  low_there top l j h = rw (← same j h) (l j h)
+
+  pub taken_there : {base child number n' : ℕ} → Taken base child o n number n' → Taken base child o' n number n'
+  taken_there {n' = n'} t =
+      record {
+        fewer = t.fewer;
+        is = λ f g alike vs e.
+            let got = t.is f g alike vs (sym (terms_there g n (omega arith)) ∙ e) in
+            (terms_there g n' (omega (arith, t.fewer)) ∙ got.0, got.1);
+        low = λ top k l. t.low top k (low_there top l);
+      }
+
+  pub rooted_there : {base n' : ℕ} {u u' : Term} → Rooted base u o n u' n' → Rooted base u o' n u' n'
+  rooted_there {n' = n'} r =
+      record {
+        fewer = r.fewer;
+        is = λ f g alike vs e.
+            let got = r.is f g alike vs (sym (terms_there g n (omega arith)) ∙ e) in
+            (terms_there g n' r.fewer ∙ got.0, got.1);
+        below = λ top k l. r.below top k (low_there top l);
+      }
+
+pub rooted_front : (o : List ℕ) (n : ℕ) {base n' : ℕ} {u u' : Term} → n ≤ length o → Rooted base u (take n o) (length (take n o)) u' n'
+    → Rooted base u o n u' n'
+rooted_front o n h r = rooted_there (take n o) o (λ j k. sym (get_or-take n o j 0 k)) (rw (length-take-le n o h) at r)
 
 -- a node over other children
 module _ (u w : Term) (kind x y : ℕ) (d : w ≡ rebuilt kind x y) (k : kind ≡ kind_of u) (some : arity_of u ≡ 0 → ⊥) where

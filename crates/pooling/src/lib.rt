@@ -2,7 +2,7 @@
 // Scratch above the pool is given up once its nodes have been copied out of it.
 #![tactic(auto)]
 
-ghost use Rattle.std.specs.Prelude.{◌+◌, ◌-◌, ◌<◌, ◌≤◌, length};
+ghost use Rattle.std.specs.Prelude.{◌≡◌, ◌+◌, ◌-◌, ◌<◌, ◌≤◌, length, take};
 ghost use Rattle.number.specs.Limits.{tree_nodes};
 ghost use Rattle.meaning.specs.Re.{size};
 ghost use Rattle.term.specs.Cells.{term, Sound};
@@ -12,24 +12,11 @@ ghost use Rattle.pooling.specs.Postfix.{takes, Fit};
 ghost use Rattle.pooling.specs.Copied.{Waited, Copied, SomeCopied, Taken, Rooted, CopyPut};
 
 use number::limits::TREE_NODES;
-use pool::{Placed, put_node};
-use term::{Term, arity, first_of, kind_of, node_at, rebuilt, second_of};
-
-// A child's number in the pool, and how many numbers are left on the stack.
-#[derive(Clone, Copy)]
-struct Child {
-    pub number: usize,
-    pub height: usize,
-}
-
-// A node whose children stand in the pool, and how many numbers are left on the stack.
-#[derive(Clone, Copy)]
-struct Node {
-    pub node: Term,
-    pub height: usize,
-}
+use pool::put_node;
+use term::{Built, Term, arity, first_of, kind_of, node_at, rebuilt, second_of};
 
 // Lists a child as the last of the places that wait, unless it stands in the pool; the answer is how many wait.
+// Kept as a count beside `out`, since the front of one lent area is the list, and its back the copy that grows towards it.
 fn wait(out: &mut [u64], waiting: usize, top: usize, child: usize) -> usize
     requires { waiting < length out.old }
     ensures { Waited top child out.old waiting out.new result }
@@ -72,51 +59,37 @@ fn copy_out(cells: &[u64], top: usize, i: usize, out: &mut [u64]) -> usize
     start
 }
 
-// A child below `base` stood in the pool and is its own number; the number of any other is the last on the stack.
-fn child_of(out: &[u64], height: usize, base: usize, child: usize) -> Child
-    requires child_bound { takes base child ≤ height }
-    requires height_in_bounds { height ≤ length out.now }
-    ensures { Taken base child out.now height result.number result.height }
+// A child's number in the pool, and what is left of the stack of numbers: a child below `base` stood in the pool and is its own number;
+// the number of any other is the last on the stack.
+fn child_of(stack: &[u64], base: usize, child: usize) -> (usize, &[u64])
+    requires { takes base child ≤ length stack.now }
+    ensures front { result.1.now ≡ take (length result.1.now) stack.now }
+    ensures taken { Taken base child stack.now (length stack.now) result.0 (length result.1.now) }
 {
     if child < base {
-        return Child {
-            number: child,
-            height: height,
-        };
+        return (child, stack);
     }
-    Child {
-        number: out[height - 1] as usize,
-        height: height - 1,
-    }
+    let last = stack.len() - 1;
+    (stack[last] as usize, &stack[..last])
 }
 
-// The node over the numbers of its children; the second child's was put last.
-fn node_of(out: &[u64], height: usize, base: usize, node: Term) -> Node
-    requires fit { Fit base node height }
-    requires height_in_bounds { height ≤ length out.now }
-    ensures { Rooted base node out.now height result.node result.height }
+// The node over the numbers of its children, and what is left of the stack; the second child's number was put last.
+fn node_of(stack: &[u64], base: usize, node: Term) -> (Term, &[u64])
+    requires { Fit base node (length stack.now) }
+    ensures { Rooted base node stack.now (length stack.now) result.0 (length result.1.now) }
 {
     let children = arity(node);
     if children == 0 {
-        return Node {
-            node: node,
-            height: height,
-        };
+        return (node, stack);
     }
     let kind = kind_of(node);
     if children == 1 {
-        let child = child_of(out, height, base, first_of(node));
-        return Node {
-            node: rebuilt(kind, child.number, 0),
-            height: child.height,
-        };
+        let (child, rest) = child_of(stack, base, first_of(node));
+        return (rebuilt(kind, child, 0), rest);
     }
-    let second = child_of(out, height, base, second_of(node));
-    let first = child_of(out, second.height, base, first_of(node));
-    Node {
-        node: rebuilt(kind, first.number, second.number),
-        height: first.height,
-    }
+    let (second, front) = child_of(stack, base, second_of(node));
+    let (first, rest) = child_of(front, base, first_of(node));
+    (rebuilt(kind, first, second), rest)
 }
 
 // Puts the nodes of a term that were copied out into the pool, children first. Their numbers are kept on a stack in the front of `out`,
@@ -127,25 +100,23 @@ fn put_copy(
     index: &mut [u16],
     cells: &mut [u64],
     top: usize,
-) -> Placed
+) -> Built
     requires some_copied { SomeCopied cells.old top out.old start }
     requires fact { Open index.old cells.old top (length out.old - start) }
     ensures { CopyPut cells.old top out.old start index.new cells.new result.root result.top }
 {
     let mut end = top;
     let mut height = 0;
-    let mut k = start;
-    while k < out.len() {
-        let made = node_of(out, height, top, node_at(out, k));
-        let node = made.node;
+    for k in start..out.len() {
+        let copied = node_at(out, k);
+        let (node, rest) = node_of(&out[..height], top, copied);
+        height = rest.len();
         let placed = put_node(index, cells, end, node);
-        height = made.height;
         out[height] = placed.root as u64;
         height += 1;
         end = placed.top;
-        k += 1;
     }
-    Placed {
+    Built {
         root: out[0] as usize,
         top: end,
     }
@@ -153,7 +124,7 @@ fn put_copy(
 
 // Puts the term in cell `i`, in the pool or in scratch above it, into the pool at `top`; the scratch is given up.
 // Most derivatives stand in the pool or have no children: these take the quick ways.
-pub fn put_term(index: &mut [u16], cells: &mut [u64], top: usize, i: usize) -> Placed
+pub fn put_term(index: &mut [u16], cells: &mut [u64], top: usize, i: usize) -> Built
     requires fact { Open index.old cells.old top tree_nodes }
     requires sound { Sound cells.old (i + 1) }
     requires i_bound { size (term cells.old i) ≤ tree_nodes }
@@ -161,7 +132,7 @@ pub fn put_term(index: &mut [u16], cells: &mut [u64], top: usize, i: usize) -> P
         (term cells.old i) (top + size (term cells.old i)) }
 {
     if i < top {
-        return Placed { root: i, top: top };
+        return Built { root: i, top };
     }
     let node = node_at(cells, i);
     if arity(node) == 0 {

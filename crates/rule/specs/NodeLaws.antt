@@ -21,7 +21,7 @@ use Rattle.term.specs.Area.{pending, Room}
 use Rattle.term.specs.Nodes.{Pushed}
 use Rattle.term.specs.Counts.{Countable}
 use Rattle.term.specs.CellLaws.{grown_trans, grown_term, makes_more, makes_as, makes_after}
-use Rattle.normal.specs.declared.Built.{Built}
+use Rattle.term.specs.declared.Built.{Built}
 use Rattle.normal.specs.Asked.{members, most_members, Links}
 use Rattle.merged.specs.Asked.{merge_cells, Sides}
 use Rattle.merged.specs.Builds.{Merged}

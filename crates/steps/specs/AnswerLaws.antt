@@ -1,6 +1,6 @@
 -- One law for each answer of the code: where its tests led there, the answer is walk's.
 -- Deriving a vector that is held adds nothing to the pool, so that its top stays; a new item moves the top.
-use Rattle.std.specs.Prelude.{ℕ, ◌+◌, ◌<◌, ◌≤◌, ◌≡◌, List, [], ◌∷◌, ◌++◌, length, get_or, Ok, Err}
+use Rattle.std.specs.Prelude.{ℕ, ◌+◌, ◌<◌, ◌≤◌, ◌≡◌, List, [], ◌∷◌, ◌++◌, length, get_or, Option, Some, None, unwrap_or, Ok, Err}
 use Rattle.std.proofs.Math.Path.{refl, ap}
 use Rattle.std.proofs.Common.{sym, ◌∙◌, arith}
 use Rattle.number.specs.declared.Refusal.{Refusal}
@@ -78,7 +78,7 @@ module _ (s : List ℕ) (n top count limit i place byte sheet : ℕ) (full : Ref
 
   -- ---- the derived vector, looked for among the items
 
-  module _ (top' : ℕ) (w : List ℕ) (done : Done s top n v byte s' top' w) (at : ℕ) (finds : Finds s' count sheet w at) where
+  module _ (top' : ℕ) (w : List ℕ) (done : Done s top n v byte s' top' w) where
     grown : Kept s' n top' count
     grown =
         kept_grown s n top count s' ok.kept few spared top' (pooled done.pooled) done.shaped done.up
@@ -90,9 +90,9 @@ module _ (s : List ℕ) (n top count limit i place byte sheet : ℕ) (full : Ref
     comes : step way i old byte ≡ come way place old next
     comes = step_by (Terms (vector_of s' n w)) done.terms
 
-    number : at ≡ number_in (items_of s n count) next
-    number =
-        found_number s' n top' count sheet w at grown done.numbers finds next refl refl
+    number : (found : Option ℕ) → Finds s' count sheet w found → unwrap_or found count ≡ number_in (items_of s n count) next
+    number found finds =
+        found_number s' n top' count sheet w found grown done.numbers finds next refl refl
         ∙ ap (λ (l : List Item). number_in l next) (items_spared s n top count s' ok.kept few spared)
 
     size : length (with_vector (terms_of s top) (vector_of s' n w)) ≡ top'
@@ -101,86 +101,92 @@ module _ (s : List ℕ) (n top count limit i place byte sheet : ℕ) (full : Ref
     many : length (items_of s n count) ≡ count
     many = items_length s n count
 
-    -- a vector that is held adds nothing to the pool
-    held_top : at < count → top' ≡ top
-    held_top l =
-        let low : Numbers n top w = rw (finds.there l).same_numbers at ((kept_spared s n top count s' ok.kept few spared).numbers at l) in
-        let whole : n ≤ length w = omega (arith, low.whole, ok.kept.few_rules) in
-        let sound : Sound s top = ok.kept.pooled.sound in
-        let held : (k : ℕ) → k < length (vector_of s' n w) → InPool (terms_of s top) (get_or (vector_of s' n w) k Nothing) =
-        λ k h.
-        let inside : k < n = omega (arith, vector_length s' n w whole) in
-        let old = frame s s' top (get_or w k 0) sound spared.kept_below (low.inside k inside) in
-        rw (vector_at s' n w k whole inside, old) (term_held_below s top (get_or w k 0) (low.inside k inside)) in
-        sym size ∙ ap length (vector_held (terms_of s top) (vector_of s' n w) (pool_closed s top sound) held) ∙ terms_length s top
+    -- ---- it is held
 
-    pub index_held : (x : List ℕ) → Indexed x s' top' → at < count → Indexed x s' top
-    index_held x i l = rw (held_top l) at i
+    module _ (at : ℕ) (finds : Finds s' count sheet w (Some at)) where
+      -- a vector that is held adds nothing to the pool
+      held_top : top' ≡ top
+      held_top =
+          let low : Numbers n top w = rw finds.there.same_numbers at ((kept_spared s n top count s' ok.kept few spared).numbers at finds.within) in
+          let whole : n ≤ length w = omega (arith, low.whole, ok.kept.few_rules) in
+          let sound : Sound s top = ok.kept.pooled.sound in
+          let held : (k : ℕ) → k < length (vector_of s' n w) → InPool (terms_of s top) (get_or (vector_of s' n w) k Nothing) =
+          λ k h.
+          let inside : k < n = omega (arith, vector_length s' n w whole) in
+          let old = frame s s' top (get_or w k 0) sound spared.kept_below (low.inside k inside) in
+          rw (vector_at s' n w k whole inside, old) (term_held_below s top (get_or w k 0) (low.inside k inside)) in
+          sym size ∙ ap length (vector_held (terms_of s top) (vector_of s' n w) (pool_closed s top sound) held) ∙ terms_length s top
 
-    pub answer_held : at < count → Steps s n count limit s' (step way i old byte) (Ok (record { held = record { top = top; count = count }; number = at }))
-    answer_held l = record {
-      same_length = spared.same_length;
-      comes = record {
-        goes =
-            comes ∙ come_held way place old next at number (omega (arith, many))
-            ∙ ap (λ (h : Held). reached h at)
-            (held_as (sym (items_spared s n top count s' ok.kept few spared)) (sym (terms_spared s n top count s' ok.kept few spared)));
-        kept = kept_spared s n top count s' ok.kept few spared;
-        low = ok.low;
-        few = ok.few;
-        up = omega arith;
-        inside = l;
-      };
-    }
+      pub index_held : (x : List ℕ) → Indexed x s' top' → Indexed x s' top
+      index_held x i = rw held_top at i
 
-    pub answer_full : count ≤ at → limit ≤ count → Steps s n count limit s' (step way i old byte) (Err full)
-    answer_full l m = record {
-      same_length = spared.same_length;
-      comes = comes ∙ come_full way place old next at number (omega (arith, many)) (omega (arith, many));
-    }
-
-    pub answer_pool : count ≤ at → count < limit → pool < top' → Steps s n count limit s' (step way i old byte) (Err (Pool place))
-    answer_pool l m o = record {
-      same_length = spared.same_length;
-      comes = comes ∙ come_pool way place old next at number (omega (arith, many)) (omega (arith, many)) (omega (arith, size));
-    }
-
-    -- ---- and stored as a new one
-
-    module _ (new : count < limit) (fits : top' ≤ pool) (s'' : List ℕ) (stored : s'' ≡ item_stored s' count w sheet i byte) where
-      room : count < items
-      room = omega (arith, ok.most)
-
-      text : text_of s' i ≡ (item old i).text
-      text =
-          ap (λ (x : Item). x.text)
-          (sym (items_at s' n count i ok.inside) ∙ ap (λ (l : List Item). get_or l i none) (items_spared s n top count s' ok.kept few spared))
-
-      held : held_of s'' n top' (count + 1) ≡ added old next
-      held =
-          held_as
-          (stored_next s' n top' count w sheet i byte s'' grown room done.numbers stored ok.inside
-          ∙ λ j. items_spared s n top count s' ok.kept few spared j
-          ++ (record { sheet = sheet; vector = vector_of s' n w; text = text j ++ (byte ∷ []) } ∷ []))
-          (stored_terms s' n top' count w sheet i byte s'' grown room done.numbers stored ∙ done.pooled.holds)
-
-      pub index_new : (x : List ℕ) → Indexed x s' top' → Indexed x s'' top'
-      index_new x y = indexed_same s'' y (stored_low s' n top' count w sheet i byte s'' grown room done.numbers stored)
-
-      pub answer_new : count ≤ at → Steps s n count limit s'' (step way i old byte) (Ok (record { held = record { top = top'; count = count + 1 }; number = count }))
-      answer_new l = record {
-        same_length = stored_length s' n top' count w sheet i byte s'' grown room done.numbers stored ∙ spared.same_length;
+      pub answer_held : Steps s n count limit s' (step way i old byte) (Ok (record { held = record { top = top; count = count }; number = at }))
+      answer_held = record {
+        same_length = spared.same_length;
         comes = record {
           goes =
-              comes ∙ come_new way place old next at number (omega (arith, many)) (omega (arith, many)) (omega (arith, size))
-              ∙ ap (λ (h : Held). reached h (length (items_of s n count))) (sym held) ∙ ap (reached (held_of s'' n top' (count + 1))) many;
-          kept = stored_kept s' n top' count w sheet i byte s'' grown room done.numbers stored (λ z. ok.inside) ok.small;
-          low = fits;
-          few = omega arith;
+              comes ∙ come_held way place old next at (number (Some at) finds) (omega (arith, many, finds.within))
+              ∙ ap (λ (h : Held). reached h at)
+              (held_as (sym (items_spared s n top count s' ok.kept few spared)) (sym (terms_spared s n top count s' ok.kept few spared)));
+          kept = kept_spared s n top count s' ok.kept few spared;
+          low = ok.low;
+          few = ok.few;
           up = omega arith;
-          inside = omega arith;
+          inside = finds.within;
         };
       }
+
+    -- ---- it is new
+
+    module _ (finds : Finds s' count sheet w None) where
+      pub answer_full : limit ≤ count → Steps s n count limit s' (step way i old byte) (Err full)
+      answer_full m = record {
+        same_length = spared.same_length;
+        comes = comes ∙ come_full way place old next count (number None finds) (omega (arith, many)) (omega (arith, many));
+      }
+
+      pub answer_pool : count < limit → pool < top' → Steps s n count limit s' (step way i old byte) (Err (Pool place))
+      answer_pool m o = record {
+        same_length = spared.same_length;
+        comes = comes ∙ come_pool way place old next count (number None finds) (omega (arith, many)) (omega (arith, many)) (omega (arith, size));
+      }
+
+      -- ---- and stored
+
+      module _ (new : count < limit) (fits : top' ≤ pool) (s'' : List ℕ) (stored : s'' ≡ item_stored s' count w sheet i byte) where
+        room : count < items
+        room = omega (arith, ok.most)
+
+        text : text_of s' i ≡ (item old i).text
+        text =
+            ap (λ (x : Item). x.text)
+            (sym (items_at s' n count i ok.inside) ∙ ap (λ (l : List Item). get_or l i none) (items_spared s n top count s' ok.kept few spared))
+
+        held : held_of s'' n top' (count + 1) ≡ added old next
+        held =
+            held_as
+            (stored_next s' n top' count w sheet i byte s'' grown room done.numbers stored ok.inside
+            ∙ λ j. items_spared s n top count s' ok.kept few spared j
+            ++ (record { sheet = sheet; vector = vector_of s' n w; text = text j ++ (byte ∷ []) } ∷ []))
+            (stored_terms s' n top' count w sheet i byte s'' grown room done.numbers stored ∙ done.pooled.holds)
+
+        pub index_new : (x : List ℕ) → Indexed x s' top' → Indexed x s'' top'
+        index_new x y = indexed_same s'' y (stored_low s' n top' count w sheet i byte s'' grown room done.numbers stored)
+
+        pub answer_new : Steps s n count limit s'' (step way i old byte) (Ok (record { held = record { top = top'; count = count + 1 }; number = count }))
+        answer_new = record {
+          same_length = stored_length s' n top' count w sheet i byte s'' grown room done.numbers stored ∙ spared.same_length;
+          comes = record {
+            goes =
+                comes ∙ come_new way place old next count (number None finds) (omega (arith, many)) (omega (arith, many)) (omega (arith, size))
+                ∙ ap (λ (h : Held). reached h (length (items_of s n count))) (sym held) ∙ ap (reached (held_of s'' n top' (count + 1))) many;
+            kept = stored_kept s' n top' count w sheet i byte s'' grown room done.numbers stored (λ z. ok.inside) ok.small;
+            low = fits;
+            few = omega arith;
+            up = omega arith;
+            inside = omega arith;
+          };
+        }
 
 -- ---- vector 0
 

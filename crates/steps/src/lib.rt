@@ -46,26 +46,22 @@ pub fn step(
     ensures follows { Follows index.new cells.new result }
 {
     let v = load(cells, i);
-    let derived = derive_vector(index, cells, held.top, v, n, byte);
-    if derived.long {
+    let Some(derived) = derive_vector(index, cells, held.top, v, n, byte) else {
         return Err(Refusal::Long(place));
-    }
-    let next = derived.top;
-    let w = derived.vector;
-    let at = find(cells, held.count, sheet, w);
-    if at < held.count {
-        return Ok(Reached { held, number: at });
+    };
+    if let Some(number) = find(cells, held.count, sheet, derived.vector) {
+        return Ok(Reached { held, number });
     }
     if limit <= held.count {
         return Err(full);
     }
-    if POOL < next {
+    if POOL < derived.top {
         return Err(Refusal::Pool(place));
     }
-    store_item(cells, held.count, w, sheet, i, byte);
+    store_item(cells, held.count, derived.vector, sheet, i, byte);
     Ok(Reached {
         held: Extent {
-            top: next,
+            top: derived.top,
             count: held.count + 1,
         },
         number: held.count,

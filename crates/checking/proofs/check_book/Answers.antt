@@ -1,6 +1,6 @@
 -- `checking::check_book` meets its contract: each return is one law of a whole book, with what was read up to there.
 -- Assumes nothing.
-use mathlib.Core.Path.{◌≡◌, sym, ap}
+use mathlib.Core.Path.{sym, ap}
 use Rattle.std.proofs.lemmas.Result.{err_from_is_err_and}
 use Rattle.book.specs.Calls.{size_of}
 use Rattle.book.specs.Promises.{checks}

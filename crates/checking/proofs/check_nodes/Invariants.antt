@@ -2,7 +2,6 @@
 -- Assumes nothing.
 use Prim.Native.Nat.{ℕ, ◌+◌, ◌-◌, ◌≤◌}
 use mathlib.Core.Path.{◌≡◌}
-use Rattle.number.specs.Limits.{nodes}
 use Rattle.number.specs.declared.Refusal.{Refusal}
 use Rattle.number.specs.Refused.Answer.{got, refused}
 use Rattle.book.specs.CodeLaws.{counted}

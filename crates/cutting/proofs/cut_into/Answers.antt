@@ -7,7 +7,7 @@ use Rattle.table.specs.Table.{lent}
 use Rattle.cutting.specs.Walk.{next}
 use Rattle.cutting.specs.WalkLaws.{well_walkable}
 use Rattle.cutting.specs.CutLaws.{by_table, found_fits}
-use Rattle.cutting.specs.TurnLaws.{stands_first, stands_done, stands_stuck, stands_full, stands_word, slots_end}
+use Rattle.cutting.specs.TurnLaws.{stands_done, stands_stuck, stands_full, stands_word, slots_end}
 use Rattle.cutting.proofs.cut_into.Goals as goal
 
 pub dead_state-dead-requires : goal.dead_state-dead-requires

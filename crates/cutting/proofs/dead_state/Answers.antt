@@ -2,15 +2,8 @@
 -- Assumes nothing.
 use native.Mathlib.Omega.{arith}
 use mathlib.Core.Path.{sym, ◌∙◌}
-use Rattle.cutting.specs.DeadLaws.{dead_start, dead_here, dead_past, dead_end}
+use Rattle.cutting.specs.DeadLaws.{dead_here, dead_past, dead_end}
 use Rattle.cutting.proofs.dead_state.Goals as goal
-
-pub loop-s-init : goal.loop-s-init
-loop-s-init c = dead_start _ _ _
-
-pub is_dead-requires : goal.is_dead-requires
-is_dead-requires c =
-    (omega (arith, c.requires.labelled), omega (arith, c.requires.filled))
 
 pub returns-then-is_dead : goal.returns-then-is_dead
 returns-then-is_dead c =

@@ -1,6 +1,6 @@
 -- `cutting::dead_state` meets its contract. The loop's invariant: the search from s on finds what the whole search finds.
 -- Assumes nothing.
-use Prim.Native.Nat.{◌-◌, ◌≤◌}
+use Prim.Native.Nat.{◌-◌}
 use mathlib.Core.Path.{◌≡◌}
 use Rattle.cutting.specs.Dead.{dead_from, dead_of}
 use Rattle.cutting.proofs.dead_state.Given as goal

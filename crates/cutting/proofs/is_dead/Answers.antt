@@ -6,15 +6,11 @@ use mathlib.Core.Path.{◌≡◌, sym, ap, ◌∙◌}
 use Rattle.number.specs.Limits.{bytes}
 use Rattle.cutting.specs.Dead.{keeps}
 use Rattle.cutting.specs.DeadLaws.{keeps_none, keeps_more, keeps_not, dead_not, dead_told}
-use Rattle.cutting.proofs.Byte.{wide}
 use Rattle.cutting.proofs.is_dead.Goals as goal
 use Rattle.cutting.proofs.is_dead.Goals.{then-targets-row, else-targets-row}
 
 pub returns-then-labels-state-ne0 : goal.returns-then-labels-state-ne0
 returns-then-labels-state-ne0 c = dead_not _ _ _ (λ d. c.if-labels-state-ne0.true d.unlabelled)
-
-pub overflow_cast-first : goal.overflow_cast-first
-overflow_cast-first c = wide (c.type_inv.targets _)
 
 pub returns-then-first-state : goal.returns-then-first-state
 returns-then-first-state c =

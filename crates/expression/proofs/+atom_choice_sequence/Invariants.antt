@@ -15,13 +15,13 @@ abbrev pub decreases-sequence : goal.decreases-sequence
 decreases-sequence l = 3 * (length l.text.now - l.at) + 1
 
 abbrev pub invariant-choice-loop-p : goal.invariant-choice-loop-p
-invariant-choice-loop-p l = SoFar (Choices l.text l.room) l.initial.cells l.from l.count l.cells l.p l.t
+invariant-choice-loop-p l = SoFar (Choices l.text l.room) l.initial.cells l.initial.p l.initial.t l.cells l.p l.t
 
 abbrev pub decreases-choice-loop-p : goal.decreases-choice-loop-p
 decreases-choice-loop-p l = length l.text - l.p
 
 abbrev pub invariant-sequence-loop-p : goal.invariant-sequence-loop-p
-invariant-sequence-loop-p l = SoFar (Sequences l.text l.room) l.initial.cells l.from l.count l.cells l.p l.t
+invariant-sequence-loop-p l = SoFar (Sequences l.text l.room) l.initial.cells l.initial.p l.initial.t l.cells l.p l.t
 
 abbrev pub decreases-sequence-loop-p : goal.decreases-sequence-loop-p
 decreases-sequence-loop-p l = length l.text - l.p

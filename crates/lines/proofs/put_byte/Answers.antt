@@ -1,7 +1,5 @@
--- `lines::put_byte` meets its contract: one store is a run of one byte.
--- Assumes nothing.
-use mathlib.Core.Path.{refl}
-use native.Mathlib.Omega.{arith}
+-- One store is a run of one byte.
+use Rattle.std.proofs.Common.{arith, refl}
 use Rattle.number.specs.Lists.{stored_one}
 use Rattle.lines.proofs.put_byte.Goals as goal
 

@@ -1,6 +1,5 @@
--- `lines::put_hex` meets its contract: the high digit, then the low one.
--- Assumes nothing.
-use native.Mathlib.Omega.{arith}
+-- The high digit, then the low one.
+use Rattle.std.proofs.Common.{arith}
 use Rattle.lines.specs.LineLaws.{hex_written}
 use Rattle.lines.proofs.put_hex.Goals as goal
 

@@ -1,9 +1,7 @@
--- `lines::put_stuck` meets its contract: the word, then the number and the line's end.
--- Assumes nothing.
-use native.Mathlib.Omega.{arith}
-use Rattle.lines.specs.LineLaws.{stuck_written}
+-- The word, and behind it the place.
+use Rattle.std.proofs.Common.{arith}
+use Rattle.lines.specs.LineLaws.{stuck_numbers, writes_parts}
 use Rattle.lines.proofs.put_stuck.Goals as goal
 
-pub returns : goal.returns
-returns c =
-    record { writes = stuck_written c.args.place (omega (arith, c.requires)) c.put_text-at_place.ensures c.put_item.ensures.writes; upper_bound = omega (arith, c.put_text-at_place.ensures.place, c.put_item.ensures.upper_bound) }
+pub returns-clause-writes : goal.returns-clause-writes
+returns-clause-writes c = writes_parts (stuck_numbers _) (omega arith) c.put_text-first.ensures c.put_numbers.ensures.writes

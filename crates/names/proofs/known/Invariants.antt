@@ -2,14 +2,10 @@
 -- Assumes nothing.
 use mathlib.Core.Path.{◌≡◌}
 use lib.ListN.{drop}
-use Prim.Native.Nat.{◌-◌, ◌≤◌}
+use Prim.Native.Nat.{◌≤◌}
 use Rattle.typed.specs.Reader.{known as known_of}
 use Rattle.typed.specs.Sets.{sets}
-use lib.Seq.{slice}
 use Rattle.names.proofs.known.Given as goal
 
 abbrev pub invariant-loop-k : goal.invariant-loop-k
-invariant-loop-k l = (l.k ≤ 12) × (known_of (slice l.from l.to l.text) sets ≡ known_of (slice l.from l.to l.text) (drop l.k sets))
-
-abbrev pub decreases-loop-k : goal.decreases-loop-k
-decreases-loop-k l = 12 - l.k
+invariant-loop-k l = (l.k ≤ 12) × (known_of l.part sets ≡ known_of l.part (drop l.k sets))

@@ -1,36 +1,29 @@
 -- `places::rule_kind` meets its contract: what checking told decides, and past it the rule is found.
 -- Assumes nothing.
 use native.Mathlib.Omega.{arith}
-use mathlib.Core.Path.{◌≡◌, sym}
-use Rattle.number.specs.Refused.Outcome.{gives}
+use mathlib.Core.Path.{sym}
+use Rattle.std.proofs.lemmas.Result.{err_from_is_err_and}
 use Rattle.number.specs.Numbers.{Bytes}
-use Rattle.book.specs.Calls.{check_of}
 use Rattle.book.specs.Promises.{tells_kind}
-use Rattle.book.specs.AnswerLaws.{counts_told, check_refusal_told, place_told, place_refusal_told}
 use Rattle.book.specs.PlaceLaws.{kind_refused, kind_none, kind_lost, kind_found}
 use Rattle.places.proofs.rule_kind.Goals as goal
 
-pub returns-then-n-rule : goal.returns-then-n-rule
-returns-then-n-rule c =
-    let size-told : check_of c.args.book.now
-    ≡ gives (record { rules = c.in-Counts.n; nodes = c.in-Counts.field-1 }) = counts_told c.check_book-counted.ensures.answer c.in-Counts.is in
-    tells_kind (sym (kind_none _ _ _ _ size-told c.if-n-rule.true))
+pub returns-in_err-rules : goal.returns-in_err-rules
+returns-in_err-rules c =
+    let told = err_from_is_err_and c.from_residual.result c.from_residual.ensures.1 in
+    rw (told.1, told.2) (tells_kind (sym (kind_refused _ _ _ (sym c.in_err-rules.ensures.answer))))
 
-pub returns-in-Refused : goal.returns-in-Refused
-returns-in-Refused c = tells_kind (sym (kind_refused _ _ _ (check_refusal_told c.check_book-counted.ensures.answer c.in-Refused.is)))
+pub returns-then-rules-rule : goal.returns-then-rules-rule
+returns-then-rules-rule c = tells_kind (sym (kind_none _ _ _ _ (sym c.in_ok-rules.ensures.answer) c.if-rules-rule.true))
 
-pub returns-in-Refused-place : goal.returns-in-Refused-place
-returns-in-Refused-place c =
+pub returns-in_err-place : goal.returns-in_err-place
+returns-in_err-place c =
+    let told = err_from_is_err_and c.from_residual-in_err-place.result c.from_residual-in_err-place.ensures.1 in
     let bytes : Bytes c.args.book.now = λ i h. omega (arith, c.type_inv.book i) in
-    let size-told : check_of c.args.book.now
-    ≡ gives (record { rules = c.in-Counts.n; nodes = c.in-Counts.field-1 }) = counts_told c.check_book-counted.ensures.answer c.in-Counts.is in
-    tells_kind (sym (kind_lost _ _ _ _ _ bytes size-told c.if-n-rule.false
-    (place_refusal_told c.find_from-place.ensures c.in-Refused-place.is)))
+    rw (told.1, told.2) (tells_kind (sym
+    (kind_lost _ _ _ _ _ bytes (sym c.in_ok-rules.ensures.answer) c.if-rules-rule.false (sym c.in_err-place.ensures))))
 
-pub returns-in-Place : goal.returns-in-Place
-returns-in-Place c =
+pub returns : goal.returns
+returns c =
     let bytes : Bytes c.args.book.now = λ i h. omega (arith, c.type_inv.book i) in
-    let size-told : check_of c.args.book.now
-    ≡ gives (record { rules = c.in-Counts.n; nodes = c.in-Counts.field-1 }) = counts_told c.check_book-counted.ensures.answer c.in-Counts.is in
-    tells_kind (sym (kind_found _ _ _ _ _ bytes size-told c.if-n-rule.false
-    (place_told c.find_from-place.ensures c.in-Place.is)))
+    tells_kind (sym (kind_found _ _ _ _ _ bytes (sym c.in_ok-rules.ensures.answer) c.if-rules-rule.false (sym c.in_ok-place.ensures)))

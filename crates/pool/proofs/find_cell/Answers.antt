@@ -1,9 +1,8 @@
 -- `pool::find_cell` meets its contract: along the chain, no cell that was passed holds the node.
 -- The measure is the number that leads to the next cell, since links lead down. Assumes nothing.
 use native.Mathlib.Omega.{arith}
-use mathlib.Core.Path.{sym, ◌∙◌}
-use Rattle.meaning.specs.Tests.{clash}
-use Rattle.pool.specs.NodeLaws.{node_same, node_self}
+use mathlib.Core.Path.{◌≡◌, sym, ◌∙◌}
+use borrow.Author.Rules.{rules}
 use Rattle.pool.specs.IndexLaws.{hash_small, chain_first, chain_next, chain_falls, chain_inside, chain_found, chain_end}
 use Rattle.pool.proofs.find_cell.Goals as goal
 
@@ -25,10 +24,10 @@ pub node_at-requires : goal.node_at-requires
 node_at-requires c =
     omega (arith, chain_inside c.loop-next.invariant, c.requires.top_in_bounds)
 
-pub returns-then-same_node : goal.returns-then-same_node
-returns-then-same_node c =
-    chain_found c.loop-next.invariant c.loop-next-test.true
-    (sym c.node_at.ensures ∙ node_same _ _ (sym c.same_node.ensures ∙ c.if-same_node.true))
+pub returns-then-eq : goal.returns-then-eq
+returns-then-eq c =
+    let same : c.node_at.result ≡ c.args.node = search rules in
+    chain_found c.loop-next.invariant c.loop-next-test.true (sym c.node_at.ensures ∙ same)
 
 pub link_at-next-requires : goal.link_at-next-requires
 link_at-next-requires c =
@@ -45,9 +44,9 @@ loop-next-smaller c =
 
 pub loop-next-preserved : goal.loop-next-preserved
 loop-next-preserved c =
+    let apart : c.node_at.result ≡ c.args.node → ⊥ = search rules in
     rw c.link_at-next.ensures (chain_next c.args.index.now c.args.cells.now c.args.top c.args.node c.requires.indexed
-    c.loop-next.invariant c.loop-next-test.true
-    (λ z. clash (c.same_node.ensures ∙ node_self _ _ (c.node_at.ensures ∙ z)) c.if-same_node.false))
+    c.loop-next.invariant c.loop-next-test.true (λ z. apart (c.node_at.ensures ∙ z)))
 
 pub returns : goal.returns
 returns c = chain_end c.loop-next.invariant (omega arith)

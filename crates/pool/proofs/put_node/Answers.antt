@@ -9,15 +9,15 @@ use Rattle.pool.specs.IndexLaws.{hash_small}
 use Rattle.pool.specs.NodeLaws.{put_old, put_new}
 use Rattle.pool.proofs.put_node.Goals as goal
 
-pub find_cell-at-requires : goal.find_cell-at-requires
-find_cell-at-requires c =
+pub find_cell-requires : goal.find_cell-requires
+find_cell-requires c =
     let fits : Fields c.args.node = below_fields c.args.node c.args.top (omega (arith, c.requires.fact.room, c.requires.fact.pooled.sound.small)) c.requires.below in
     record { indexed = c.requires.fact.indexed; top_in_bounds = c.requires.fact.pooled.sound.room; fields = fits }
 
-pub returns-then-at-top : goal.returns-then-at-top
-returns-then-at-top c =
+pub returns-in-Some : goal.returns-in-Some
+returns-in-Some c =
     put_old c.args.index.now c.args.cells.now c.args.top c.args.node c.requires.fact.pooled c.requires.fact.indexed c.requires.below
-    c.find_cell-at.result (omega (arith, c.find_cell-at.ensures.within)) c.find_cell-at.ensures
+    c.in-Some.root c.in-Some.ensures
 
 pub hash_of-hash-requires : goal.hash_of-hash-requires
 hash_of-hash-requires c =
@@ -54,6 +54,6 @@ bounds-index-hash-2 c =
 
 pub returns : goal.returns
 returns c =
-    put_new c.args.index.now c.args.cells.now c.args.top c.args.node c.requires.fact.pooled c.requires.fact.indexed c.requires.below _ _ _
-    (omega arith) c.find_cell-at.ensures
+    put_new c.args.index.now c.args.cells.now c.args.top c.args.node c.requires.fact.pooled c.requires.fact.indexed c.requires.below _ _
+    (c.in_default.ensures)
     c.hash_of-hash.ensures c.hold-next.ensures (omega (arith, c.requires.fact.inside))

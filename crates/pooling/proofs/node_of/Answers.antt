@@ -1,40 +1,39 @@
 -- `pooling::node_of` meets its contract: one law for each number of children, over what taking these told.
--- Assumes nothing.
-use native.Mathlib.Omega.{arith}
-use mathlib.Core.Path.{◌≡◌, sym, ◌∙◌}
+-- The first child is taken from the front that the second one left. Assumes nothing.
+use Rattle.std.proofs.Common.{◌≡◌, ◌<◌, ℕ, length, get_or, arith, sym, ◌∙◌, get_or-take}
 use Rattle.term.specs.Nodes.{arity_of}
 use Rattle.term.specs.ReadLaws.{arity_two}
-use Rattle.pooling.specs.PutLaws.{takes_one, takes_two, takes_last, rooted_none, rooted_one, rooted_two}
+use Rattle.pooling.specs.PutLaws.{takes_one, takes_two, takes_last, taken_there, rooted_none, rooted_one, rooted_two}
 use Rattle.pooling.proofs.node_of.Goals as goal
 
 pub returns-then-children-eq0 : goal.returns-then-children-eq0
-returns-then-children-eq0 c = rooted_none c.requires.fit (sym c.arity-children.ensures ∙ c.if-children-eq0.true)
+returns-then-children-eq0 c = rooted_none c.requires (sym c.arity-children.ensures ∙ c.if-children-eq0.true)
 
 pub child_of-child-requires : goal.child_of-child-requires
-child_of-child-requires c =
-    let one : arity_of c.args.node ≡ 1 = sym c.arity-children.ensures ∙ c.if-children-eq1.true in
-    record { child_bound = takes_one c.requires.fit one c.first_of.ensures; height_in_bounds = c.requires.height_in_bounds }
+child_of-child-requires c = takes_one c.requires (sym c.arity-children.ensures ∙ c.if-children-eq1.true) c.first_of.ensures
 
 pub returns-then-children-eq1 : goal.returns-then-children-eq1
 returns-then-children-eq1 c =
-    let one : arity_of c.args.node ≡ 1 = sym c.arity-children.ensures ∙ c.if-children-eq1.true in
-    rooted_one c.requires.fit c.rebuilt.ensures c.kind_of-kind.ensures one
-    c.first_of.ensures c.child_of-child.ensures
+    rooted_one c.requires c.rebuilt.ensures c.kind_of-kind.ensures (sym c.arity-children.ensures ∙ c.if-children-eq1.true)
+    c.first_of.ensures c.child_of-child.ensures.taken
 
 pub child_of-second-requires : goal.child_of-second-requires
 child_of-second-requires c =
     let two : arity_of c.args.node ≡ 2 = arity_two c.args.node (λ e. c.if-children-eq0.false (c.arity-children.ensures ∙ e)) (λ e. c.if-children-eq1.false (c.arity-children.ensures ∙ e)) in
-    record { child_bound = takes_last c.requires.fit two c.second_of.ensures; height_in_bounds = c.requires.height_in_bounds }
+    takes_last c.requires two c.second_of.ensures
 
 pub child_of-first-requires : goal.child_of-first-requires
 child_of-first-requires c =
     let two : arity_of c.args.node ≡ 2 = arity_two c.args.node (λ e. c.if-children-eq0.false (c.arity-children.ensures ∙ e)) (λ e. c.if-children-eq1.false (c.arity-children.ensures ∙ e)) in
-    let enough = takes_two c.requires.fit two c.first_of-2.ensures c.second_of.ensures in
-    record { child_bound = omega (arith, enough, c.child_of-second.ensures.fewer); height_in_bounds = omega (arith, c.child_of-second.ensures.fewer, c.requires.height_in_bounds) }
+    let enough = takes_two c.requires two c.first_of-2.ensures c.second_of.ensures in
+    omega (arith, enough, c.child_of-second.ensures.taken.fewer)
 
 pub returns : goal.returns
 returns c =
     let two : arity_of c.args.node ≡ 2 = arity_two c.args.node (λ e. c.if-children-eq0.false (c.arity-children.ensures ∙ e)) (λ e. c.if-children-eq1.false (c.arity-children.ensures ∙ e)) in
-    rooted_two c.requires.fit c.rebuilt-2.ensures c.kind_of-kind.ensures two
+    let front = c.child_of-second.result.1.now in
+    let same : (j : ℕ) → j < length front → get_or c.args.stack.now j 0 ≡ get_or front j 0 =
+    λ j h. sym (get_or-take (length front) c.args.stack.now j 0 h) ∙ (rw (← c.child_of-second.ensures.front)) in
+    rooted_two c.requires c.rebuilt-2.ensures c.kind_of-kind.ensures two
     c.first_of-2.ensures c.second_of.ensures
-    c.child_of-second.ensures c.child_of-first.ensures
+    c.child_of-second.ensures.taken (taken_there front c.args.stack.now same c.child_of-first.ensures.taken)
