@@ -2,9 +2,11 @@
 -- The reader of an expression is told by its own states; they are lifted into those of the whole text.
 use Prim.Native.Nat.{ℕ, zero, suc, ◌+◌, ◌*◌, ◌-◌, ◌<◌, ◌≤◌}
 use native.Mathlib.Omega.{arith}
-use Rattle.std.specs.Prelude.{◌≡◌, Bool, true, false, cond, eqb, length, get_or, take}
+use Rattle.std.specs.Prelude.{◌≡◌, Bool, true, false, cond, eqb, length, get_or, take, min, None, Some, Ok, Err}
 use Rattle.std.proofs.Math.Path.{refl, ap}
-use Rattle.std.proofs.Common.{sym, subst, ◌∙◌, take_all, ne_eqb, eqb-true}
+use Rattle.std.proofs.Common.{sym, ◌∙◌, take_all, ne_eqb, eqb-true}
+use Rattle.std.proofs.Math.Decide.{dec_le}
+use Rattle.std.proofs.lemmas.Option.{none-some}
 use Rattle.std.proofs.Math.Option.{Option}
 use Rattle.std.proofs.Math.Option.Option.{none, some}
 use mathlib.Core.List.{List, [], ◌∷◌, ◌++◌}
@@ -32,20 +34,15 @@ use Rattle.typed.specs.TestLaws.{between_true, none_some}
 use Rattle.laid.specs.Laid.{Capped, Lays}
 use Rattle.laid.specs.Laid.Capped.{fits, over}
 use Rattle.laid.specs.Laid.Lays.{lies}
-use Rattle.names.specs.Bytes.{byte_at, starting as starting_byte, marking, digit_number}
+use Rattle.names.specs.Bytes.{byte_at, starting as starting_byte, marking, found}
 use Rattle.names.specs.ByteLaws.{byte_inside, byte_there}
-use Rattle.expression.specs.declared.Read.TheVariants as read
-use Rattle.expression.specs.Reads.{Goes, Reads, Chosen, Ends, ChoiceRead}
+use Rattle.expression.specs.Reads.{At, wrong_at, Goes, Reads, Chosen, Ends, ChoiceRead}
 use Rattle.expression.specs.Reads.Reads.{reads, stops}
 use Rattle.expression.specs.Reads.Due.{outermost}
 use Rattle.expression.specs.Reads.Chosen.{chosen}
 use Rattle.expression.specs.GoesLaws.{slice_join, slice_one, late_key, no_both}
 use Rattle.expression.specs.PartLaws.{at_of, wrong_of}
-use Rattle.typing.specs.declared.KindRead.{KindRead}
-use Rattle.typing.specs.declared.KindRead.TheVariants.{Kind, Wrong}
-use Rattle.typing.specs.declared.LineRead.{LineRead}
-use Rattle.typing.specs.declared.LineRead.TheVariants as line
-use Rattle.typing.specs.Passes.{Passes, Fails, KindReads, ColonReads, Longer, LineReads}
+use Rattle.typing.specs.Passes.{KindAnswer, LineAnswer, Passes, Fails, KindReads, ColonReads, Longer, LineReads}
 use Rattle.typing.specs.Passes.KindReads.{kind_read, kind_wrong}
 use Rattle.typing.specs.Passes.LineReads.{line_read, line_wrong}
 
@@ -104,19 +101,19 @@ digit_low c x e = by_bounds (between 48 57 c) refl e
     by_bounds true z h = let y : c - 48 ≡ x = cc in let m = between_true 48 57 c z in omega (arith, m.0, m.1)
     by_bounds false z h = absurd (none_some h)
 
-digit_none : (c x : ℕ) → x ≡ digit_number (digit c) → x ≡ 10 → digit c ≡ none
-digit_none c x e h = by_value (digit c) refl (sym h ∙ e)
+digit_none : (c : ℕ) → None ≡ found (digit c) → digit c ≡ none
+digit_none c e = by_value (digit c) e
   where
-    by_value : (o : Option ℕ) → digit c ≡ o → 10 ≡ digit_number o → o ≡ none
-    by_value none z y = refl
-    by_value (some v) z y = absurd (omega (arith, digit_low c v z))
+    by_value : (o : Option ℕ) → None ≡ found o → o ≡ none
+    by_value none z = refl
+    by_value (some y) z = absurd (none-some y z)
 
-digit_some : (c x : ℕ) → x ≡ digit_number (digit c) → (x ≡ 10 → ⊥) → digit c ≡ some x
-digit_some c x e h = by_value (digit c) e
+digit_some : (c x : ℕ) → Some x ≡ found (digit c) → digit c ≡ some x
+digit_some c x e = by_value (digit c) e
   where
-    by_value : (o : Option ℕ) → x ≡ digit_number o → o ≡ some x
-    by_value none z = absurd (h z)
-    by_value (some v) z = ap some (sym z)
+    by_value : (o : Option ℕ) → Some x ≡ found o → o ≡ some x
+    by_value none z = absurd (none-some x (sym z))
+    by_value (some y) z = let e : x ≡ y = cc in ap some (sym e)
 
 -- ---- the colon
 
@@ -124,7 +121,7 @@ module _ (text : List ℕ) (p kind c : ℕ) (e : c ≡ byte_at text p) where
   pub colon_there : c ≡ 58 → p < length text
   colon_there h = byte_there text p (λ z. omega arith)
 
-  pub colon_read : c ≡ 58 → ColonReads text p kind (Kind kind (p + 1))
+  pub colon_read : c ≡ 58 → ColonReads text p kind (Ok (kind, p + 1))
   unfolding colon
   colon_read h =
       let l = colon_there h in
@@ -135,7 +132,7 @@ module _ (text : List ℕ) (p kind c : ℕ) (e : c ≡ byte_at text p) where
             passes_then a.1 (passes_one text p a.0 (whole ls (reading k begin)) l (a.2.colon_next l ∙ ap (colon ls k) (sym e ∙ h)));
       }
 
-  pub colon_missing : p ≤ length text → (c ≡ 58 → ⊥) → ColonReads text p kind (Wrong p)
+  pub colon_missing : p ≤ length text → (c ≡ 58 → ⊥) → ColonReads text p kind (Err (record { at = p }))
   unfolding colon
   colon_missing m h =
       record {
@@ -166,8 +163,8 @@ begins_step : (ls : List Line) (c : ℕ) (o : Option ℕ) → digit c ≡ o → 
 unfolding turn
 begins_step ls c o e = ap (begins ls) e
 
-module _ (text : List ℕ) (p c x : ℕ) (l : p < length text) (b : c ≡ byte_at text p) (e : x ≡ digit_number (digit c)) where
-  pub kind_none : x ≡ 10 → KindReads text p (Wrong p)
+module _ (text : List ℕ) (p c : ℕ) (l : p < length text) (b : c ≡ byte_at text p) where
+  pub kind_none : None ≡ found (digit c) → KindReads text p (Err (record { at = p }))
   unfolding begins
   kind_none h =
       kind_wrong {q = p} (omega arith) (omega arith) λ ls.
@@ -175,26 +172,26 @@ module _ (text : List ℕ) (p c x : ℕ) (l : p < length text) (b : c ≡ byte_a
         last = whole ls starting;
         passes = passes_none text p (whole ls starting) (omega arith);
         stuck = record {
-          no_turn = λ _. begins_step ls (byte_at text p) none (sym (ap digit b) ∙ digit_none c x e h);
+          no_turn = λ _. begins_step ls (byte_at text p) none (sym (ap digit b) ∙ digit_none c h);
           no_end = λ z. absurd (omega arith);
         };
       }
 
-  first_digit_lem : (x ≡ 10 → ⊥) → digit (byte_at text p) ≡ some x
-  first_digit_lem n = sym (ap digit b) ∙ digit_some c x e n
+  first_digit_lem : (x : ℕ) → Some x ≡ found (digit c) → digit (byte_at text p) ≡ some x
+  first_digit_lem x e = sym (ap digit b) ∙ digit_some c x e
 
-  pub kind_zero : (r : KindRead) → x ≡ 0 → ColonReads text (p + 1) 0 r → KindReads text p r
+  pub kind_zero : (r : KindAnswer) (x : ℕ) → Some x ≡ found (digit c) → x ≡ 0 → ColonReads text (p + 1) 0 r → KindReads text p r
   unfolding begins turn accept
-  kind_zero r h a =
+  kind_zero r x e h a =
       a.reads p 0 (fits (omega arith)) (omega arith) λ ls. (
         whole ls zeroed,
-        passes_one text p (whole ls starting) (whole ls zeroed) l (begins_step ls (byte_at text p) (some 0) (first_digit_lem (λ z. omega arith) ∙ ap some h)),
+        passes_one text p (whole ls starting) (whole ls zeroed) l (begins_step ls (byte_at text p) (some 0) (first_digit_lem x e ∙ ap some h)),
         record { colon_next = λ _. refl; not_end = refl },
       )
 
-  pub kind_first : (x ≡ 10 → ⊥) → (x ≡ 0 → ⊥) → x ≤ 10 → KindSoFar text p (p + 1) x
+  pub kind_first : (x : ℕ) → Some x ≡ found (digit c) → (x ≡ 0 → ⊥) → x < 10 → KindSoFar text p (p + 1) x
   unfolding begins
-  kind_first n z m =
+  kind_first x e z m =
       let h : x ≡ suc (x - 1) = omega arith in
       record {
         value = x;
@@ -202,7 +199,7 @@ module _ (text : List ℕ) (p c x : ℕ) (l : p < length text) (b : c ≡ byte_a
         ahead = omega arith;
         inside = omega arith;
         passes = λ ls. passes_one text p (whole ls starting) (whole ls (counted x)) l
-            (begins_step ls (byte_at text p) (some (suc (x - 1))) (first_digit_lem n ∙ ap some h) ∙ ap (λ (v : ℕ). some (whole ls (counted v))) (sym h));
+            (begins_step ls (byte_at text p) (some (suc (x - 1))) (first_digit_lem x e ∙ ap some h) ∙ ap (λ (v : ℕ). some (whole ls (counted v))) (sym h));
       }
 
 capped_small : (kind k : ℕ) → Capped kinds kind k → kind ≤ kinds + 1
@@ -216,40 +213,41 @@ on_digit_lem : (ls : List Line) (k c : ℕ) (o : Option ℕ) → digit c ≡ o �
 unfolding turn
 on_digit_lem ls k c o e = ap (on_digit ls k c) e
 
-module _ (text : List ℕ) (p q kind c x : ℕ) (a : KindSoFar text p q kind) (b : c ≡ byte_at text q) (e : x ≡ digit_number (digit c)) where
-  pub kind_more : (kind' : ℕ) → q < length text → (x ≡ 10 → ⊥) → Longer kind x kind' → KindSoFar text p (q + 1) kind'
+module _ (text : List ℕ) (p q kind c : ℕ) (a : KindSoFar text p q kind) (b : c ≡ byte_at text q) where
+  pub kind_more : (x kind' : ℕ) → q < length text → Some x ≡ found (digit c) → Longer kind x kind' → KindSoFar text p (q + 1) kind'
   unfolding on_digit
-  kind_more kind' l n d =
+  kind_more x kind' l e d =
       record {
         value = a.value * 10 + x;
         capped = d.is a.value a.capped;
         ahead = omega (arith, a.ahead);
         inside = omega arith;
         passes = λ ls. passes_then (a.passes ls) (passes_one text q (whole ls (counted a.value)) (whole ls (counted (a.value * 10 + x))) l
-            (on_digit_lem ls a.value (byte_at text q) (some x) (sym (ap digit b) ∙ digit_some c x e n)));
+            (on_digit_lem ls a.value (byte_at text q) (some x) (sym (ap digit b) ∙ digit_some c x e)));
       }
 
-  pub kind_stops : (r : KindRead) → x ≡ 10 → ColonReads text q kind r → KindReads text p r
+  pub kind_stops : (r : KindAnswer) → None ≡ found (digit c) → ColonReads text q kind r → KindReads text p r
   unfolding on_digit accept
   kind_stops r h d =
       d.reads p a.value a.capped a.ahead λ ls. (
         whole ls (counted a.value),
         a.passes ls,
         record {
-          colon_next = λ _. on_digit_lem ls a.value (byte_at text q) none (sym (ap digit b) ∙ digit_none c x e h);
+          colon_next = λ _. on_digit_lem ls a.value (byte_at text q) none (sym (ap digit b) ∙ digit_none c h);
           not_end = refl;
         },
       )
 
-pub kind_ends : (text : List ℕ) (p q kind : ℕ) → length text ≤ q → KindSoFar text p q kind → KindReads text p (Wrong q)
+pub kind_ends : (text : List ℕ) (p q kind : ℕ) → length text ≤ q → KindSoFar text p q kind → KindReads text p (Err (record { at = length text }))
 unfolding accept
 kind_ends text p q kind h a =
-    kind_wrong {q = q} (omega (arith, a.ahead)) a.inside λ ls.
+    let e : q ≡ length text = omega (arith, a.inside) in
+    rw (← e) (kind_wrong {q = q} (omega (arith, a.ahead)) a.inside λ ls.
     record {
       last = whole ls (counted a.value);
       passes = a.passes ls;
       stuck = record { no_turn = λ l. absurd (omega arith); no_end = λ _. refl };
-    }
+    })
 
 longer_fits : (kind d k : ℕ) → kind * 10 + d ≤ kinds → Capped kinds kind k → Capped kinds (kind * 10 + d) (k * 10 + d)
 longer_fits kind d k h (fits z) = fits h
@@ -259,37 +257,34 @@ longer_over : (kind d k : ℕ) → kinds < kind * 10 + d → Capped kinds kind k
 longer_over kind d k h (fits z) = over h
 longer_over kind d k h (over z) = over (let y : kinds < k * 10 + d = omega arith in y)
 
-pub longer_within : (kind d : ℕ) → kind * 10 + d ≤ kinds → Longer kind d (kind * 10 + d)
-longer_within kind d h = record { small = omega arith; is = λ k c. longer_fits kind d k h c }
+pub longer_is : (kind d r : ℕ) → r ≡ min (kind * 10 + d) (kinds + 1) → Longer kind d r
+longer_is kind d r e =
+    elim (dec_le (kind * 10 + d) kinds) [
+      | yes h ↦ let z : r ≡ kind * 10 + d = omega (arith, e) in rw z (record { small = omega arith; is = λ k c. longer_fits kind d k h c })
+      | no h ↦
+          let g : kinds < kind * 10 + d = omega arith in
+          let z : r ≡ kinds + 1 = omega (arith, e) in
+          rw z (record { small = omega arith; is = λ k c. longer_over kind d k g c })
+    ]
 
-pub longer_past : (kind d : ℕ) → kinds < kind * 10 + d → Longer kind d (kinds + 1)
-longer_past kind d h = record { small = omega arith; is = λ k c. longer_over kind d k h c }
-
--- a reading of an answer is one of what the answer is
-pub kind_as : {text : List ℕ} {p : ℕ} {r r' : KindRead} → r ≡ r' → KindReads text p r → KindReads text p r'
-kind_as {text} {p} e h = subst (KindReads text p) e h
-
-pub line_as : {text : List ℕ} {p : ℕ} {cells : List ℕ} {r r' : LineRead} {cells' : List ℕ} → r ≡ r' → LineReads text p cells r cells' → LineReads text p cells r' cells'
-line_as {text} {p} {cells} {cells' = cells'} e h = subst (λ (x : LineRead). LineReads text p cells x cells') e h
-
-pub line_same : {text : List ℕ} {p : ℕ} {cells : List ℕ} {r : LineRead} {cells' : List ℕ} → LineReads text p cells r cells' → length cells' ≡ length cells
+pub line_same : {text : List ℕ} {p : ℕ} {cells : List ℕ} {r : LineAnswer} {cells' : List ℕ} → LineReads text p cells r cells' → length cells' ≡ length cells
 line_same (line_read k e same small c l h m f) = same
 line_same (line_wrong same h m f) = same
 
 -- ---- a line
 
-pub from_inside : {text : List ℕ} {p kind from : ℕ} → KindReads text p (Kind kind from) → (p < from) × (from ≤ length text)
+pub from_inside : {text : List ℕ} {p kind from : ℕ} → KindReads text p (Ok (kind, from)) → (p < from) × (from ≤ length text)
 from_inside (kind_read k c h m f) = (h, m)
 
 none_laid : (cells : List ℕ) → Lays cells 0 []
 none_laid cells = lies {top = 0} (omega arith) refl refl
 
 module _ (text : List ℕ) (p : ℕ) (cells : List ℕ) where
-  pub line_kind_wrong : (q : ℕ) → KindReads text p (Wrong q) → LineReads text p cells (line.Wrong q) cells
+  pub line_kind_wrong : (q : ℕ) → KindReads text p (Err (record { at = q })) → LineReads text p cells (Err (record { at = q })) cells
   line_kind_wrong q (kind_wrong h k f) = line_wrong refl h k f
 
   module _ (kind from : ℕ) (cells' : List ℕ) where
-    body_wrong : (q : ℕ) (ls : List Line) (k : ℕ) → Reads text cells from 0 begin (Chosen [] deep) Ends (read.Wrong q) cells'
+    body_wrong : (q : ℕ) (ls : List Line) (k : ℕ) → Reads text cells from 0 begin (Chosen [] deep) Ends (wrong_at q) cells'
         → Fails text from q (whole ls (reading k begin))
     unfolding accept
     body_wrong q ls k (stops u g h) =
@@ -299,28 +294,28 @@ module _ (text : List ℕ) (p : ℕ) (cells : List ℕ) where
           stuck = record { no_turn = λ l. no_step ls k (byte_at text q) u (h.no_step l) (h.no_end l); no_end = λ _. refl };
         }
 
-    pub line_body_wrong : (q : ℕ) → KindReads text p (Kind kind from) → ChoiceRead Ends text cells from deep 0 (read.Wrong q) cells'
-        → LineReads text p cells (line.Wrong q) cells'
+    pub line_body_wrong : (q : ℕ) → KindReads text p (Ok (kind, from)) → ChoiceRead Ends text cells from deep 0 (wrong_at q) cells'
+        → LineReads text p cells (Err (record { at = q })) cells'
     line_body_wrong q (kind_read k c h m f) a =
         let w = wrong_of a.within in
         line_wrong {q = q} a.same (omega (arith, w.0)) w.1 λ ls. fails_then (f ls) (body_wrong q ls k (a.reads [] outermost))
 
     module _ (q count : ℕ) where
-      whole_line : KindReads text p (Kind kind from) → length cells' ≡ length cells → q < length text → byte_at text q ≡ 10 → from < q
-          → Reads text cells from 0 begin (Chosen [] deep) Ends (read.At q count) cells' → LineReads text p cells (line.Line kind count (q + 1)) cells'
+      whole_line : KindReads text p (Ok (kind, from)) → length cells' ≡ length cells → q < length text → byte_at text q ≡ 10 → from < q
+          → Reads text cells from 0 begin (Chosen [] deep) Ends (At q count) cells' → LineReads text p cells (Ok (record { kind = kind; count = count; next = q + 1 })) cells'
       whole_line (kind_read k c h m f) same l z ahead (reads e u g (chosen {b = b} {r = r} {l = i}) x d) =
           line_read {q = q + 1} k e same (d.small (omega arith)) c (d.adds [] (none_laid cells)) (omega arith) (omega arith) λ ls.
           passes_then (f ls) (passes_then (lifted ls k g)
           (passes_one text q (whole ls (reading k (at plain (held b r i) [] deep))) (whole (ls ++ (rule k (made b r i) ∷ [])) starting) l
           (ap (turn (whole ls (reading k (at plain (held b r i) [] deep)))) z ∙ newline_turn ls k b r i deep)))
 
-      pub line_whole : KindReads text p (Kind kind from) → ChoiceRead Ends text cells from deep 0 (read.At q count) cells' → q < length text
-          → byte_at text q ≡ 10 → LineReads text p cells (line.Line kind count (q + 1)) cells'
+      pub line_whole : KindReads text p (Ok (kind, from)) → ChoiceRead Ends text cells from deep 0 (At q count) cells' → q < length text
+          → byte_at text q ≡ 10 → LineReads text p cells (Ok (record { kind = kind; count = count; next = q + 1 })) cells'
       line_whole y a l z = whole_line y a.same l z (at_of a.within).0 (a.reads [] outermost)
 
       -- no newline where the expression ends
-      open_line : KindReads text p (Kind kind from) → length cells' ≡ length cells → from < q → q ≤ length text → (q < length text → byte_at text q ≡ 10 → ⊥)
-          → Reads text cells from 0 begin (Chosen [] deep) Ends (read.At q count) cells' → LineReads text p cells (line.Wrong q) cells'
+      open_line : KindReads text p (Ok (kind, from)) → length cells' ≡ length cells → from < q → q ≤ length text → (q < length text → byte_at text q ≡ 10 → ⊥)
+          → Reads text cells from 0 begin (Chosen [] deep) Ends (At q count) cells' → LineReads text p cells (Err (record { at = q })) cells'
       unfolding accept
       open_line (kind_read k c h m f) same ahead inside n (reads e u g (chosen {b = b} {r = r} {l = i}) x d) =
           line_wrong {q = q} same (omega arith) inside λ ls.
@@ -334,8 +329,8 @@ module _ (text : List ℕ) (p : ℕ) (cells : List ℕ) where
             };
           }
 
-      pub line_open : KindReads text p (Kind kind from) → ChoiceRead Ends text cells from deep 0 (read.At q count) cells' → (q < length text → byte_at text q ≡ 10 → ⊥)
-          → LineReads text p cells (line.Wrong q) cells'
+      pub line_open : KindReads text p (Ok (kind, from)) → ChoiceRead Ends text cells from deep 0 (At q count) cells' → (q < length text → byte_at text q ≡ 10 → ⊥)
+          → LineReads text p cells (Err (record { at = q })) cells'
       line_open y a n = open_line y a.same (at_of a.within).0 (at_of a.within).1 n (a.reads [] outermost)
 
 -- ---- the whole text

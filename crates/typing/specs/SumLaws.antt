@@ -2,9 +2,9 @@
 -- A line in range adds its bytes to the book; after one that is not, only where it stands is kept.
 use Prim.Native.Nat.{ℕ, zero, suc, ◌+◌, ◌*◌, ◌<◌, ◌≤◌}
 use native.Mathlib.Omega.{arith}
-use Rattle.std.specs.Prelude.{◌≡◌, refl, Bool, true, false, ◌||◌, ltb, get_or, take, set as stored}
+use Rattle.std.specs.Prelude.{◌≡◌, refl, Bool, true, false, ◌||◌, ltb, get_or, take, Result, Ok, Err}
 use Rattle.std.proofs.Math.Path.{sym, ap}
-use Rattle.std.proofs.Common.{subst, ◌∙◌, length-append, length-set, take-suc, length-take-le, lt-ltb, le-ltb, eq-eqb, ne_eqb}
+use Rattle.std.proofs.Common.{subst, ◌∙◌, length-append, length-take-le, drop-drop, lt-ltb, le-ltb, eq-eqb, ne_eqb}
 use Rattle.std.proofs.Math.Option.Option.{some}
 use mathlib.Core.List.{List, [], ◌∷◌, ◌++◌, map, append_assoc, append-nil}
 use Rattle.std.proofs.Math.ListN.{length, drop}
@@ -14,13 +14,11 @@ use Rattle.number.specs.declared.Refusal.TheVariants.{Range, Room, Typed}
 use Rattle.number.specs.Limits.{first_version, rules, kinds, nodes, typed_area}
 use Rattle.number.specs.Refused.{Outcome, row_of}
 use Rattle.number.specs.Refused.Outcome.{gives, refuses}
-use Rattle.number.specs.Lists.{Writes, written, writes_none, writes_then, take_written, stored_one, drop_one}
+use Rattle.number.specs.Lists.{Writes, written, writes_then, take_written, drop_one}
 use Rattle.number.specs.Numbers.{write_number}
 use Rattle.book.specs.declared.Node.{Node}
 use Rattle.book.specs.declared.Node.TheVariants.{Empty, Cat, Alt, Star}
 use Rattle.book.specs.Book.{total, write_nodes, write_rule, write_rules, write_book}
-use Rattle.table.specs.declared.Written.{Written}
-use Rattle.table.specs.declared.Written.TheVariants.{Bytes, Unwritten}
 use Rattle.typed.specs.Sets.{Span, spans}
 use Rattle.typed.specs.Sets.Span.{span}
 use Rattle.typed.specs.Exp.{Exp, joined, ranges, postfix}
@@ -48,14 +46,12 @@ use Rattle.laid.specs.LaidLaws.{lays_capped}
 use Rattle.laid.specs.ByteLaws.{width_most, cells_most, writes_same, AllTypable, nodes_bytes}
 use Rattle.expression.specs.GoesLaws.{no_both}
 use Rattle.typing.specs.declared.Sum.{Sum}
-use Rattle.typing.specs.declared.LineRead.TheVariants as line
-use Rattle.typing.specs.declared.RulesRead.{RulesRead}
-use Rattle.typing.specs.declared.RulesRead.TheVariants.{All, Wrong}
+use Rattle.typing.specs.declared.Fault.{Fault}
 use Rattle.typing.specs.Promises.{Types, Given}
 use Rattle.typing.specs.Passes.{Passes, LineReads}
 use Rattle.typing.specs.Passes.LineReads.{line_read, line_wrong}
 use Rattle.typing.specs.PassLaws.{passes_none, passes_then, reads_all, reads_text, reads_wrong}
-use Rattle.typing.specs.Sums.{FaultAfter, Summed, Roomy, AddsLine, RulesReads, Finishes, LeftAfter}
+use Rattle.typing.specs.Sums.{FaultAfter, Rules, Small, Summed, Roomy, AddsLine, RulesReads, Finishes, LeftAfter}
 use Rattle.typing.specs.Sums.LeftAfter.{newline, no_newline}
 use Rattle.typing.specs.Sums.Summed.{in_range, out_of_range}
 use Rattle.typing.specs.Sums.RulesReads.{all_read, wrong_read}
@@ -141,12 +137,14 @@ fault_stays i ls l a =
       count = a.count;
     }
 
-add_faulty_sums : (s : Sum) (book : List ℕ) (ls : List Line) (l : Line) → s.faulty ≡ true → Summed ls s book → Summed (ls ++ (l ∷ [])) s book
-add_faulty_sums s book ls l z (in_range f i r n b) = absurd (no_both (sym z ∙ f))
-add_faulty_sums s book ls l z (out_of_range f a) = out_of_range f (fault_stays s.rules ls l a)
+add_faulty_sums : (f : Fault) (book : List ℕ) (ls : List Line) (l : Line) → Summed ls (Err f) book → Summed (ls ++ (l ∷ [])) (Err f) book
+add_faulty_sums f book ls l (out_of_range a) = out_of_range {f = f} (fault_stays f.line ls l a)
 
-pub add_faulty : (s : Sum) (kind count : ℕ) (cells book : List ℕ) → s.faulty ≡ true → Roomy s book → AddsLine s kind count cells book s book
-add_faulty s kind count cells book z r = record { roomy = r; sums = λ ls k e a c l f. add_faulty_sums s book ls (rule k e) z a }
+pub add_faulty : (f : Fault) (kind count : ℕ) (cells book : List ℕ) → Roomy (Err f) book → AddsLine (Err f) kind count cells book (Err f) book
+add_faulty f kind count cells book r = record { roomy = r; sums = λ ls k e a c l _. add_faulty_sums f book ls (rule k e) a }
+
+pub roomy_of : {r r' : Rules} {book : List ℕ} → r ≡ r' → Roomy r book → Roomy r' book
+roomy_of {book = book} e h = subst (λ (r : Rules). Roomy r book) e h
 
 -- counts that are within their limits are what they count
 kind_is : (kind k : ℕ) → kind ≤ kinds → Capped kinds kind k → kind ≡ k
@@ -157,7 +155,10 @@ laid_is : (cells : List ℕ) (count : ℕ) (ns : List Node) → count ≤ nodes 
 laid_is cells count ns h (lies l k t) = (k, t)
 laid_is cells count ns h (lost l) = absurd (omega arith)
 
-module _ (s : Sum) (kind count : ℕ) (cells book : List ℕ) (good : s.faulty ≡ false) (room : Roomy s book) where
+module _ (s : Sum) (kind count : ℕ) (cells book : List ℕ) (room : Roomy (Ok s) book) where
+  counts : Small s
+  counts = room.counts
+
   -- the test of the code is that of the lines
   tested : (ls : List Line) (k : ℕ) (e : Exp) → s.rules ≡ length ls → s.nodes ≡ total_of ls → Capped kinds kind k → Lays cells count (postfix e)
       → out_of s.rules s.nodes kind count ≡ out_of (length ls) (total_of ls) k (length (postfix e))
@@ -165,11 +166,10 @@ module _ (s : Sum) (kind count : ℕ) (cells book : List ℕ) (good : s.faulty �
       out_capped s.rules s.nodes kind k count (length (postfix e)) c (lays_capped l)
       ∙ ap (λ (i : ℕ). out_of i s.nodes k (length (postfix e))) r ∙ ap (λ (t : ℕ). out_of (length ls) t k (length (postfix e))) n
 
-  out_sums : (s' : Sum) (ls : List Line) (k : ℕ) (e : Exp) → s'.faulty ≡ true → s'.rules ≡ s.rules → out_of s.rules s.nodes kind count ≡ true
-      → Summed ls s book → Capped kinds kind k → Lays cells count (postfix e) → Summed (ls ++ (rule k e ∷ [])) s' book
-  out_sums s' ls k e f g z (out_of_range h a) c l = absurd (no_both (sym h ∙ good))
-  out_sums s' ls k e f g z (in_range h i r n b) c l =
-      out_of_range f (record {
+  out_sums : (f : Fault) (ls : List Line) (k : ℕ) (e : Exp) → f.line ≡ s.rules → out_of s.rules s.nodes kind count ≡ true
+      → Summed ls (Ok s) book → Capped kinds kind k → Lays cells count (postfix e) → Summed (ls ++ (rule k e ∷ [])) (Err f) book
+  out_sums f ls k e g z (in_range i r n b) c l =
+      out_of_range {f = f} (record {
         before = ls;
         line = rule k e;
         later = [];
@@ -179,13 +179,8 @@ module _ (s : Sum) (kind count : ℕ) (cells book : List ℕ) (good : s.faulty �
         count = g ∙ r;
       })
 
-  pub add_out : (s' : Sum) → s' ≡ record { rules = s.rules; nodes = s.nodes; end = s.end; faulty = true } → out_of s.rules s.nodes kind count ≡ true
-      → AddsLine s kind count cells book s' book
-  add_out s' e z =
-      record {
-        roomy = rw e (record { few = room.few; small = room.small; short = room.short; book_is = room.book_is });
-        sums = λ ls k x a c l _. out_sums s' ls k x (ap (λ (y : Sum). y.faulty) e) (ap (λ (y : Sum). y.rules) e) z a c l;
-      }
+  pub add_out : (f : Fault) → f.line ≡ s.rules → out_of s.rules s.nodes kind count ≡ true → AddsLine (Ok s) kind count cells book (Err f) book
+  add_out f g z = record { roomy = record { counts = tt; book_is = room.book_is }; sums = λ ls k x a c l _. out_sums f ls k x g z a c l }
 
   module _ (b₁ b₂ book' : List ℕ) (at₂ at₃ end' : ℕ) (z : out_of s.rules s.nodes kind count ≡ false)
       (w₁ : Writes (write_number kind) book b₁ s.end at₂) (w₂ : Writes (write_number count) b₁ b₂ at₂ at₃)
@@ -210,66 +205,69 @@ module _ (s : Sum) (kind count : ℕ) (cells book : List ℕ) (good : s.faulty �
         )
 
     start_inside : s.end + (6 + count * 7) ≤ length book
-    start_inside = let i = within_all in omega (arith, room.short, room.book_is, i.0, i.2)
+    start_inside = let i = within_all in omega (arith, counts.short, room.book_is, i.0, i.2)
 
     all_written : Writes bytes book book' s.end end'
     all_written =
         writes_then (omega (arith, start_inside)) w₁
         (writes_then (omega (arith, start_inside, w₁.place, width_most kind, writes_same w₁ (omega (arith, start_inside, width_most kind)))) w₂ w₃)
 
-    in_sums : (s' : Sum) (ls : List Line) (k : ℕ) (e : Exp) → s'.faulty ≡ false → s'.rules ≡ s.rules + 1 → s'.nodes ≡ s.nodes + count → s'.end ≡ end'
-        → Summed ls s book → Capped kinds kind k → Lays cells count (postfix e) → Fits e → Summed (ls ++ (rule k e ∷ [])) s' book'
-    in_sums s' ls k e f g h d (out_of_range y a) c l t = absurd (no_both (sym y ∙ good))
-    in_sums s' ls k e f g h d (in_range y i r n b) c l t =
+    in_sums : (s' : Sum) (ls : List Line) (k : ℕ) (e : Exp) → s'.rules ≡ s.rules + 1 → s'.nodes ≡ s.nodes + count → s'.end ≡ end'
+        → Summed ls (Ok s) book → Capped kinds kind k → Lays cells count (postfix e) → Fits e → Summed (ls ++ (rule k e ∷ [])) (Ok s') book'
+    in_sums s' ls k e g h d (in_range i r n b) c l t =
         let v = within_all in
         let m = laid_is cells count (postfix e) (omega (arith, v.2)) l in
         let same : bytes ≡ rule_bytes k (postfix e) =
         ap (λ (x : ℕ). write_number x ++ (write_number count ++ cells_bytes (take count cells))) (kind_is kind k v.1 c)
         ∙ ap (λ (x : ℕ). write_number k ++ (write_number x ++ cells_bytes (take count cells))) (sym m.0)
         ∙ ap (λ (x : List ℕ). write_number k ++ (write_number (length (postfix e)) ++ x)) (ap cells_bytes m.1 ∙ nodes_bytes (postfix e) (postfix_typable e t)) in
-        in_range f (limits_more ls k e i (sym (tested ls k e r n c l) ∙ z))
+        in_range {s = s'} (limits_more ls k e i (sym (tested ls k e r n c l) ∙ z))
         (omega (arith, g, r, length-append ls (rule k e ∷ []))) (omega (arith, h, n, m.0, total_more ls k e))
         (ap (λ (x : ℕ). take x book') (d ∙ all_written.place) ∙ ap (take (s.end + length bytes)) all_written.out
         ∙ take_written book s.end bytes (omega (arith, start_inside)) ∙ ap (λ (x : List ℕ). x ++ bytes) b
         ∙ ap (write_rules (map rule_of ls) ++◌) same ∙ sym (rules_more ls k e))
 
-    pub add_in : (s' : Sum) → s' ≡ record { rules = s.rules + 1; nodes = s.nodes + count; end = end'; faulty = false } → AddsLine s kind count cells book s' book'
+    pub add_in : (s' : Sum) → s' ≡ record { rules = s.rules + 1; nodes = s.nodes + count; end = end' } → AddsLine (Ok s) kind count cells book (Ok s') book'
     add_in s' x =
         let i = within_all in
+        let g = ap (λ (y : Sum). y.rules) x in
+        let h = ap (λ (y : Sum). y.nodes) x in
+        let d = ap (λ (y : Sum). y.end) x in
         record {
-          roomy = rw x (record {
-            few = omega (arith, i.0);
-            small = omega (arith, i.2);
-            short = omega (arith, room.short, all_written.place, short_bytes);
+          roomy = record {
+            counts = record {
+              few = omega (arith, g, i.0);
+              small = omega (arith, h, i.2);
+              short = omega (arith, g, h, d, counts.short, all_written.place, short_bytes);
+            };
             book_is = writes_same all_written (omega (arith, start_inside, short_bytes)) ∙ room.book_is;
-          });
-          sums = λ ls k e a c l t. in_sums s' ls k e (ap (λ (y : Sum). y.faulty) x) (ap (λ (y : Sum). y.rules) x) (ap (λ (y : Sum). y.nodes) x)
-              (ap (λ (y : Sum). y.end) x) a c l t;
+          };
+          sums = λ ls k e a c l t. in_sums s' ls k e g h d a c l t;
         }
 
 -- ---- all lines
 
-pub record RulesSoFar (text : List ℕ) (p : ℕ) (s : Sum) (cells book : List ℕ) : Type 0 where
+pub record RulesSoFar (text : List ℕ) (p : ℕ) (s : Rules) (cells book : List ℕ) : Type 0 where
   pub lines : List Line
   pub passes : Passes text 0 p at_first (whole lines starting)
   pub summed : Summed lines s book
   pub roomy : Roomy s book
   pub cells_are : length cells ≡ nodes
 
-none_summed : (s : Sum) (book : List ℕ) → s ≡ record { rules = 0; nodes = 0; end = 0; faulty = false } → Summed [] s book
-unfolding total write_rules
-none_summed s book e =
-    in_range (ap (λ (x : Sum). x.faulty) e) (record { few = omega arith; kinds_fit = tt; small = omega arith })
-    (ap (λ (x : Sum). x.rules) e) (ap (λ (x : Sum). x.nodes) e) (ap (λ (x : Sum). take x.end book) e)
+abbrev no_rules : Sum
+no_rules = record { rules = 0; nodes = 0; end = 0 }
 
-pub rules_first : (text : List ℕ) (s : Sum) (cells book : List ℕ) → s ≡ record { rules = 0; nodes = 0; end = 0; faulty = false } → length cells ≡ nodes
-    → length book ≡ typed_area → RulesSoFar text 0 s cells book
-rules_first text s cells book e h k =
+none_summed : (book : List ℕ) → Summed [] (Ok no_rules) book
+unfolding total write_rules
+none_summed book = in_range {s = no_rules} (record { few = omega arith; kinds_fit = tt; small = omega arith }) refl refl refl
+
+pub rules_first : (text cells book : List ℕ) → length cells ≡ nodes → length book ≡ typed_area → RulesSoFar text 0 (Ok no_rules) cells book
+rules_first text cells book h k =
     record {
       lines = [];
       passes = passes_none text 0 at_first (omega arith);
-      summed = none_summed s book e;
-      roomy = rw e (record { few = omega arith; small = omega arith; short = omega arith; book_is = k });
+      summed = none_summed book;
+      roomy = record { counts = record { few = omega arith; small = omega arith; short = omega arith }; book_is = k };
       cells_are = h;
     }
 
@@ -277,12 +275,12 @@ last_fits : (ls : List Line) (k : ℕ) (e : Exp) → AllFit (ls ++ (rule k e ∷
 last_fits [] k e (more_fit f a) = f
 last_fits (rule j d ∷ ls) k e (more_fit f a) = last_fits ls k e a
 
-module _ (text : List ℕ) (p : ℕ) (s : Sum) (cells book : List ℕ) (a : RulesSoFar text p s cells book) where
-  pub line_kept : (kind count q : ℕ) (cells' : List ℕ) → LineReads text p cells (line.Line kind count q) cells'
+module _ (text : List ℕ) (p : ℕ) (s : Rules) (cells book : List ℕ) (a : RulesSoFar text p s cells book) where
+  pub line_kept : (kind count q : ℕ) (cells' : List ℕ) → LineReads text p cells (Ok (record { kind = kind; count = count; next = q })) cells'
       → (length cells' ≡ nodes) × (count ≤ nodes + 1) × (p < q) × (q ≤ length text)
   line_kept kind count q cells' (line_read k e same small c l h m f) = (same ∙ a.cells_are, small, h, m)
 
-  pub rules_next : (kind count q : ℕ) (cells' : List ℕ) (s' : Sum) (book' : List ℕ) → LineReads text p cells (line.Line kind count q) cells'
+  pub rules_next : (kind count q : ℕ) (cells' : List ℕ) (s' : Rules) (book' : List ℕ) → LineReads text p cells (Ok (record { kind = kind; count = count; next = q })) cells'
       → AddsLine s kind count cells' book s' book' → RulesSoFar text q s' cells' book'
   rules_next kind count q cells' s' book' (line_read k e same small c l h m f) d =
       let ls = a.lines ++ (rule k e ∷ []) in
@@ -296,59 +294,57 @@ module _ (text : List ℕ) (p : ℕ) (s : Sum) (cells book : List ℕ) (a : Rule
         cells_are = same ∙ a.cells_are;
       }
 
-  pub rules_wrong : (q : ℕ) (cells' : List ℕ) → LineReads text p cells (line.Wrong q) cells' → RulesReads text book (Wrong q)
+  pub rules_wrong : (q : ℕ) (cells' : List ℕ) → LineReads text p cells (Err (record { at = q })) cells' → RulesReads text book (Err (record { at = q }))
   rules_wrong q cells' (line_wrong same h m f) = wrong_read a.roomy.book_is (reads_wrong text p q a.lines a.passes (f a.lines))
 
-  pub rules_all : length text ≤ p → RulesReads text book (All s)
+  pub rules_all : length text ≤ p → RulesReads text book (Ok s)
   rules_all h = all_read a.lines (reads_text text p a.lines h a.passes) a.summed a.roomy
-
-pub rules_as : {text book : List ℕ} {r r' : RulesRead} → r ≡ r' → RulesReads text book r → RulesReads text book r'
-rules_as {text} {book} e h = subst (RulesReads text book) e h
 
 -- ---- the end
 
 -- the call: too small an area is refused, and else it is as above
-pub types_room : (text out : List ℕ) → length out < typed_area → Types text out (Unwritten Room) out
+pub types_room : (text out : List ℕ) → length out < typed_area → Types text out (Err Room) out
 types_room text out h = let z = lt-ltb (length out) typed_area h in record { answer = rw z refl; row = rw z refl; output = rw z refl }
 
-pub types_given : (text out : List ℕ) (r : Written) (out' : List ℕ) → typed_area ≤ length out → Given text out r out' → Types text out r out'
+pub types_given : (text out : List ℕ) (r : Result ℕ Refusal) (out' : List ℕ) → typed_area ≤ length out → Given text out r out' → Types text out r out'
 types_given text out r out' h a =
     let z = le-ltb (length out) typed_area h in
     record { answer = rw z a.answer; row = rw z (ap row_of a.answer); output = rw z a.output }
 
-given_refused : (text out : List ℕ) (r : Refusal) → book_bytes text ≡ refuses r → Given text out (Unwritten r) out
+given_refused : (text out : List ℕ) (r : Refusal) → book_bytes text ≡ refuses r → Given text out (Err r) out
 given_refused text out r e = record { answer = sym (ap (λ (x : Outcome (List ℕ)). (put_book out x).answer) e); output = sym (ap (λ (x : Outcome (List ℕ)). (put_book out x).out) e) }
 
-pub given_wrong : (text book out : List ℕ) (p : ℕ) → RulesReads text book (Wrong p) → Given text out (Unwritten (Typed p)) out
+pub given_wrong : (text book out : List ℕ) (p : ℕ) → RulesReads text book (Err (record { at = p })) → Given text out (Err (Typed p)) out
 given_wrong text book out p (wrong_read h e) = given_refused text out (Typed p) (when_wrong text p e)
 
-pub given_all : (text book out : List ℕ) (s : Sum) (r : Written) (out' : List ℕ) → RulesReads text book (All s) → Finishes text s book out r out' → Given text out r out'
+pub given_all : (text book out : List ℕ) (s : Rules) (r : Result ℕ Refusal) (out' : List ℕ) → RulesReads text book (Ok s) → Finishes text s book out r out' → Given text out r out'
 given_all text book out s r out' (all_read ls e a h) f = f.gives ls e a
 
-pub all_roomy : (text book : List ℕ) (s : Sum) → RulesReads text book (All s) → Roomy s book
+pub all_roomy : (text book : List ℕ) (s : Rules) → RulesReads text book (Ok s) → Roomy s book
 all_roomy text book s (all_read ls e a h) = h
 
-module _ (text : List ℕ) (s : Sum) (book out : List ℕ) where
-  out_given : (at : ℕ) (ls : List Line) → s.faulty ≡ true → at ≡ start_of s.rules 0 text → read_lines text ≡ typed ls → Summed ls s book
-      → Given text out (Unwritten (Range at)) out
-  out_given at ls z e d (in_range f i r n b) = absurd (no_both (sym z ∙ f))
-  out_given at ls z e d (out_of_range f a) =
-      given_refused text out (Range at) (when_out text ls s.rules d (ap (fault 0 0) a.parts ∙ out_of_lem a.before a.line a.later a.fits a.out ∙ ap some (sym a.count))
+module _ (text : List ℕ) (f : Fault) (book out : List ℕ) (at : ℕ) (e : at ≡ start_of f.line 0 text) where
+  out_given : (ls : List Line) → read_lines text ≡ typed ls → Summed ls (Err f) book → Given text out (Err (Range at)) out
+  out_given ls d (out_of_range a) =
+      given_refused text out (Range at) (when_out text ls f.line d (ap (fault 0 0) a.parts ∙ out_of_lem a.before a.line a.later a.fits a.out ∙ ap some (sym a.count))
       ∙ ap (λ (p : ℕ). refuses (Range p)) (sym e))
 
-  pub finish_out : (at : ℕ) → s.faulty ≡ true → at ≡ start_of s.rules 0 text → Finishes text s book out (Unwritten (Range at)) out
-  finish_out at z e = record { same = refl; gives = λ ls d a. out_given at ls z e d a }
+  pub finish_out : Finishes text (Err f) book out (Err (Range at)) out
+  finish_out = record { same = refl; gives = λ ls d a. out_given ls d a }
 
-  none_given : (ls : List Line) → s.rules ≡ 0 → s.faulty ≡ false → read_lines text ≡ typed ls → Summed ls s book → Given text out (Unwritten (Range 0)) out
-  none_given ls z g d (out_of_range f a) = absurd (no_both (sym f ∙ g))
-  none_given [] z g d (in_range f i r n b) = given_refused text out (Range 0) (when_none text d)
-  none_given (l ∷ ls) z g d (in_range f i r n b) = absurd (omega arith)
+module _ (text : List ℕ) (s : Sum) (book out : List ℕ) where
+  none_given : (ls : List Line) → s.rules ≡ 0 → read_lines text ≡ typed ls → Summed ls (Ok s) book → Given text out (Err (Range 0)) out
+  none_given [] z d (in_range i r n b) = given_refused text out (Range 0) (when_none text d)
+  none_given (l ∷ ls) z d (in_range i r n b) = absurd (omega arith)
 
-  pub finish_none : s.faulty ≡ false → s.rules ≡ 0 → Finishes text s book out (Unwritten (Range 0)) out
-  finish_none g z = record { same = refl; gives = λ ls d a. none_given ls z g d a }
+  pub finish_none : s.rules ≡ 0 → Finishes text (Ok s) book out (Err (Range 0)) out
+  finish_none z = record { same = refl; gives = λ ls d a. none_given ls z d a }
 
-  module _ (o₁ o₂ out' : List ℕ) (at₁ at₂ end : ℕ) (g : s.faulty ≡ false) (n : s.rules ≡ 0 → ⊥) (room : Roomy s book) (long : typed_area ≤ length out)
+  module _ (o₁ o₂ out' : List ℕ) (at₁ at₂ end : ℕ) (n : s.rules ≡ 0 → ⊥) (room : Roomy (Ok s) book) (long : typed_area ≤ length out)
       (w₁ : Writes (write_number first_version) out o₁ 0 at₁) (w₂ : Writes (write_number s.rules) o₁ o₂ at₁ at₂) (w₃ : Writes (take s.end book) o₂ out' at₂ end) where
+    counted : Small s
+    counted = room.counts
+
     abbrev whole_book : List ℕ
     whole_book = write_number first_version ++ (write_number s.rules ++ take s.end book)
 
@@ -364,14 +360,14 @@ module _ (text : List ℕ) (s : Sum) (book out : List ℕ) where
           length-append (write_number s.rules) (take s.end book),
           width_most first_version,
           width_most s.rules,
-          length-take-le s.end book (omega (arith, room.short, room.few, room.small, room.book_is)),
-          room.short,
-          room.few,
-          room.small,
+          length-take-le s.end book (omega (arith, counted.short, counted.few, counted.small, room.book_is)),
+          counted.short,
+          counted.few,
+          counted.small,
           long,
         )
 
-    given_book : (bytes : List ℕ) → whole_book ≡ bytes → book_bytes text ≡ gives bytes → Given text out (Bytes end) out'
+    given_book : (bytes : List ℕ) → whole_book ≡ bytes → book_bytes text ≡ gives bytes → Given text out (Ok end) out'
     unfolding written
     given_book bytes e d =
         record {
@@ -379,17 +375,16 @@ module _ (text : List ℕ) (s : Sum) (book out : List ℕ) where
           output = book_written.out ∙ ap (written out 0) e ∙ ap (λ (n : ℕ). bytes ++ drop n out) (let z : 0 + length bytes ≡ length bytes = omega arith in z) ∙ sym (ap (λ (x : Outcome (List ℕ)). (put_book out x).out) d);
         }
 
-    book_given : (ls : List Line) → read_lines text ≡ typed ls → Summed ls s book → Given text out (Bytes end) out'
+    book_given : (ls : List Line) → read_lines text ≡ typed ls → Summed ls (Ok s) book → Given text out (Ok end) out'
     unfolding book_of write_book
-    book_given ls d (out_of_range f a) = absurd (no_both (sym f ∙ g))
-    book_given [] d (in_range f i r m b) = absurd (n r)
-    book_given (l ∷ ls) d (in_range f i r m b) =
+    book_given [] d (in_range i r m b) = absurd (n r)
+    book_given (l ∷ ls) d (in_range i r m b) =
         given_book (write_book (book_of (l ∷ ls)))
         (ap (λ (x : List ℕ). write_number first_version ++ (write_number s.rules ++ x)) b
         ∙ ap (λ (x : ℕ). write_number first_version ++ (write_number x ++ write_rules (map rule_of (l ∷ ls)))) (r ∙ sym (length-map (l ∷ ls) rule_of)))
         (when_right text l ls d (limits_none (l ∷ ls) i))
 
-    pub finish_book : Finishes text s book out (Bytes end) out'
+    pub finish_book : Finishes text (Ok s) book out (Ok end) out'
     finish_book = record { same = writes_same book_written (omega (arith, book_short)); gives = λ ls d a. book_given ls d a }
 
 -- ---- where a line starts
@@ -420,9 +415,9 @@ module _ (text : List ℕ) (line left p : ℕ) (a : StartSoFar text line left p)
   unfolding start_of
   start_found z = sym (ap (λ (l : ℕ). start_of l p (drop p text)) z) ∙ a.is
 
-  pub start_ends : length text ≤ p → p ≡ start_of line 0 text
+  pub start_ends : length text ≤ p → length text ≡ start_of line 0 text
   unfolding start_of
-  start_ends h = by_left left (ap (start_of left p) (sym (drop_all p text h)) ∙ a.is)
+  start_ends h = (let z : length text ≡ p = omega (arith, a.inside) in z) ∙ by_left left (ap (start_of left p) (sym (drop_all p text h)) ∙ a.is)
     where
       by_left : (l : ℕ) → start_of l p [] ≡ start_of line 0 text → p ≡ start_of line 0 text
       by_left zero e = e
@@ -447,29 +442,13 @@ module _ (text : List ℕ) (line left p : ℕ) (a : StartSoFar text line left p)
 
 -- ---- copying
 
-pub record CopySoFar (part out : List ℕ) (at count : ℕ) (out' : List ℕ) (i : ℕ) : Type 0 where
-  pub within : i ≤ count
-  pub same : length out' ≡ length out
-  pub writes : Writes (take i part) out out' at (at + i)
-
-pub copy_first : (part out : List ℕ) (at count : ℕ) → CopySoFar part out at count out 0
-copy_first part out at count =
-    record { within = omega arith; same = refl; writes = subst (λ (q : ℕ). Writes [] out out at q) (let z : at ≡ at + 0 = omega arith in z) (writes_none out at) }
-
-pub copy_next : (part out : List ℕ) (at count : ℕ) (out' : List ℕ) (i : ℕ) → i < count → count ≤ length part → at + count ≤ length out
-    → CopySoFar part out at count out' i → CopySoFar part out at count (stored out' (at + i) (get_or part i 0)) (i + 1)
-copy_next part out at count out' i l m h a =
-    let x : ℕ = get_or part i 0 in
-    let one : suc i ≡ i + 1 = omega arith in
-    let byte : Writes (x ∷ []) out' (stored out' (at + i) x) (at + i) (at + (i + 1)) =
-    record { place = omega arith; out = stored_one out' (at + i) x (omega (arith, a.same)) } in
+-- a copied part is a run of its bytes
+pub copied : (part now s : List ℕ) (at k n : ℕ) → n ≡ length part → k ≡ n → now ≡ part → Writes part s (take at s ++ (now ++ drop k (drop at s))) at (at + n)
+unfolding written
+copied part now s at k n c e f =
+    let g : k ≡ length part = e ∙ c in
     record {
-      within = omega arith;
-      same = length-set out' (at + i) x ∙ a.same;
-      writes = subst (λ (w : List ℕ). Writes w out (stored out' (at + i) x) at (at + (i + 1)))
-          (sym (take-suc part i 0 (omega arith)) ∙ ap (λ (j : ℕ). take j part) one) (writes_then (omega arith) a.writes byte);
+      place = ap (at +◌) c;
+      out = ap (λ (l : List ℕ). take at s ++ (l ++ drop k (drop at s))) f ∙ ap (λ (l : List ℕ). take at s ++ (part ++ l)) (drop-drop k at s ∙ ap (λ (n : ℕ). drop (at + n) s) g)
+          ∙ sym (append_assoc (take at s) part (drop (at + length part) s));
     }
-
-pub copy_all : (part out : List ℕ) (at count : ℕ) (out' : List ℕ) (i : ℕ) → count ≤ i → CopySoFar part out at count out' i
-    → Writes (take count part) out out' at (at + count)
-copy_all part out at count out' i h a = let e : i ≡ count = omega (arith, a.within) in rw (← e) a.writes

@@ -1,16 +1,10 @@
 -- `typing::type_in` meets its contract: what was read decides; the law of each answer.
 -- Assumes nothing.
-use Rattle.typing.specs.SumLaws.{rules_as, all_roomy, given_wrong, given_all}
+use Rattle.std.proofs.lemmas.Result.{err_from_is_err_and}
+use Rattle.typing.specs.SumLaws.{given_wrong}
 use Rattle.typing.proofs.type_in.Goals as goal
 
-pub read_rules-requires : goal.read_rules-requires
-read_rules-requires c = (c.requires.cells_are, c.requires.book_is)
-
-pub finish-requires : goal.finish-requires
-finish-requires c = (all_roomy _ _ _ (rules_as c.in-All.is c.read_rules.ensures), c.requires.room)
-
-pub returns-in-Wrong : goal.returns-in-Wrong
-returns-in-Wrong c = given_wrong _ _ _ _ (rules_as c.in-Wrong.is c.read_rules.ensures)
-
-pub returns-in-All : goal.returns-in-All
-returns-in-All c = given_all _ _ _ _ _ _ (rules_as c.in-All.is c.read_rules.ensures) c.finish.ensures
+pub returns-in_err-sum : goal.returns-in_err-sum
+returns-in_err-sum c =
+    let told = err_from_is_err_and c.from_residual.result c.from_residual.ensures.1 in
+    rw (told.1, told.2) (given_wrong _ _ _ _ c.in_err-sum.ensures)
