@@ -91,7 +91,7 @@ step_read file v at left h n next t w some e f =
     let place : next ≡ at + length (write_node x.n) = cc in
     rw (f, same, place) x.step
 
-not_refused : (file : List ℕ) (v at left h : ℕ) (r : Refusal) → Standing file v at left h → 0 < left
+pub not_refused : (file : List ℕ) (v at left h : ℕ) (r : Refusal) → Standing file v at left h → 0 < left
     → read_node file v at ≡ refused r → ⊥
 not_refused file v at left h r w some e =
     let x = first_node file v at left h w some in

@@ -57,7 +57,7 @@ fn node_term(cells: &mut [u64], top: usize, node: Node, a: usize, b: usize) -> O
 }
 
 // The normal form of a rule of a book that is read, above `top`, or none if it or a part of it is too long.
-// Two spare places below the stack of cells let every node read two numbers.
+// Kept as an array with its height beside: by the two spare places below the stack every node reads two numbers, and none tests how many stand.
 // The book is read, so both answers that are unwrapped are there.
 pub fn rule_term(book: &[u8], rule: usize, cells: &mut [u64], top: usize) -> Option<Built>
     requires has { Has book.now rule }

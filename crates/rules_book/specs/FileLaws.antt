@@ -1,17 +1,17 @@
 -- What the promise of rules_book says of a file that is too long, and of any other.
 -- A longer text is refused before it is looked at; the room that is asked for is the room that typing asks for.
-use Rattle.std.specs.Prelude.{ℕ, ◌≤◌, ◌<◌, ◌≡◌, List, length}
+use Rattle.std.specs.Prelude.{ℕ, ◌≤◌, ◌<◌, ◌≡◌, List, length, Result}
 use Rattle.std.proofs.Common.{ap}
 use borrow.Author.Tests.{lt-ltb, le-ltb}
 use Rattle.number.specs.Limits.{rules_file, typed_area}
 use Rattle.number.specs.Refused.{row_of}
 use Rattle.number.specs.Refused.Row.{row}
-use Rattle.table.specs.declared.Written.{Written}
+use Rattle.number.specs.declared.Refusal.{Refusal}
 use Rattle.table.specs.Calls.{wrote}
 use Rattle.typed.specs.Calls.{type_of}
 use Rattle.rules_book.specs.Print.{rules_bytes, MakesBook}
 
-module _ (text out : List ℕ) (r : Written) (out' : List ℕ) (b : MakesBook text out r out') where
+module _ (text out : List ℕ) (r : Result ℕ Refusal) (out' : List ℕ) (b : MakesBook text out r out') where
   pub long_refused : rules_file < length text → (row_of (wrote r) ≡ row 13 0) × (out' ≡ out)
   unfolding rules_bytes
   long_refused h =

@@ -8,15 +8,14 @@ ghost use Rattle.rules_book.specs.Print.{MakesBook};
 
 use number::Refusal;
 use number::limits::RULES_FILE;
-use table::Written;
 
 // The book of a file of typed rules; more bytes than it may have stand for a file that is missing or too long.
-pub fn rules_book(text: &[u8], out: &mut [u8]) -> Written
+pub fn rules_book(text: &[u8], out: &mut [u8]) -> Result<usize, Refusal>
     requires { typed_area ≤ length out.old }
     ensures { MakesBook text.now out.old result out.new }
 {
     if text.len() <= RULES_FILE {
         return typing::type_rules(text, out);
     }
-    Written::Unwritten(Refusal::Input)
+    Err(Refusal::Input)
 }
