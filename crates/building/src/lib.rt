@@ -11,12 +11,10 @@ ghost use Rattle.built.specs.Calls.{build_book};
 ghost use Rattle.filled.specs.Tabled.{Tabled};
 ghost use Rattle.building.specs.Promises.{Roomy, Builds};
 
-use book::Checked;
 use number::Refusal;
 use number::limits::{BYTES, STATES, TABLE_CELLS};
 use pool::HEADS;
-use steps::Stepped;
-use table::{Counted, fill};
+use table::fill;
 use vector::layout::WORK_LENGTH;
 
 // The table of a book that is read, with `n` rules.
@@ -26,41 +24,40 @@ fn build_rules(
     cells: &mut [u64],
     labels: &mut [u8],
     targets: &mut [u8],
-) -> Counted
+) -> Result<usize, Refusal>
     requires opened { Opened book.now n }
     requires roomy { Roomy labels.old targets.old cells.old }
     ensures { Tabled (build_rules (rules_in book.now)) labels.new targets.new result }
 {
     let mut index = [0u16; HEADS];
-    let first = start::first_vector(book, n, &mut index, cells);
-    if first.long {
-        return Counted::Refused(Refusal::Long(0));
-    }
-    let at = first.top;
-    let v = first.vector;
-    let begun = steps::hold_first(cells, at, n, v);
-    match begun {
-        Stepped::Stopped(r) => Counted::Refused(r),
-        Stepped::Reached(top, count, _) => {
-            filled::fill_table(&mut index, cells, top, count, n, labels, targets)
-        }
-    }
+    let Some(first) = start::first_vector(book, n, &mut index, cells) else {
+        return Err(Refusal::Long(0));
+    };
+    let begun = steps::hold_first(cells, first.top, n, first.vector)?;
+    filled::fill_table(&mut index, cells, begun.held, n, labels, targets)
 }
 
 // The table of a book, at the front of the table area.
-fn build_book(book: &[u8], cells: &mut [u64], labels: &mut [u8], targets: &mut [u8]) -> Counted
+fn build_book(
+    book: &[u8],
+    cells: &mut [u64],
+    labels: &mut [u8],
+    targets: &mut [u8],
+) -> Result<usize, Refusal>
     requires { Roomy labels.old targets.old cells.old }
     ensures { Tabled (build_book book.now) labels.new targets.new result }
 {
-    let checked = checking::check_book(book);
-    match checked {
-        Checked::Refused(r) => Counted::Refused(r),
-        Checked::Counts(n, _) => build_rules(book, n, cells, labels, targets),
-    }
+    let (n, _) = checking::check_book(book)?;
+    build_rules(book, n, cells, labels, targets)
 }
 
 // With room: only the front of the work area is lent on, so that a cell's number fits sixteen bits.
-fn build_part(book: &[u8], labels: &mut [u8], targets: &mut [u8], work: &mut [u64]) -> Counted
+fn build_part(
+    book: &[u8],
+    labels: &mut [u8],
+    targets: &mut [u8],
+    work: &mut [u64],
+) -> Result<usize, Refusal>
     requires states_in_bounds { states ≤ length labels.old }
     requires table_cells_in_bounds { table_cells ≤ length targets.old }
     requires work_length_in_bounds { work_length ≤ length work.old }
@@ -71,33 +68,30 @@ fn build_part(book: &[u8], labels: &mut [u8], targets: &mut [u8], work: &mut [u6
 
 // A book is built into the table area. Cells of that area past the table are made 0, and all of them after a refusal, as is the work area;
 // only where an area is too small is nothing changed.
-pub fn build(book: &[u8], labels: &mut [u8], targets: &mut [u8], work: &mut [u64]) -> Counted
+pub fn build(
+    book: &[u8],
+    labels: &mut [u8],
+    targets: &mut [u8],
+    work: &mut [u64],
+) -> Result<usize, Refusal>
     ensures { Builds book.now labels.old targets.old work.old
         labels.new targets.new work.new result }
 {
     let labels_end = labels.len();
     let targets_end = targets.len();
     if labels_end < STATES {
-        return Counted::Refused(Refusal::Room);
+        return Err(Refusal::Room);
     }
     if targets_end < TABLE_CELLS {
-        return Counted::Refused(Refusal::Room);
+        return Err(Refusal::Room);
     }
     if work.len() < WORK_LENGTH {
-        return Counted::Refused(Refusal::Room);
+        return Err(Refusal::Room);
     }
     let built = build_part(book, labels, targets, work);
     vector::clear(work);
-    match built {
-        Counted::States(count) => {
-            fill(labels, count, labels_end, 0);
-            fill(targets, count * BYTES, targets_end, 0);
-            Counted::States(count)
-        }
-        Counted::Refused(r) => {
-            fill(labels, 0, labels_end, 0);
-            fill(targets, 0, targets_end, 0);
-            Counted::Refused(r)
-        }
-    }
+    let count = built.unwrap_or(0);
+    fill(labels, count, labels_end, 0);
+    fill(targets, count * BYTES, targets_end, 0);
+    built
 }

@@ -47,7 +47,7 @@ struct Run {
 
 // A state has no label, and no byte leads out of it. Where the first target leads elsewhere it tells that alone; where it leads back, all
 // others are compared with it, many at a time.
-fn is_dead<'a>(labels: &'a [u8], targets: &'a [u8], state: usize) -> bool
+fn is_dead(labels: &[u8], targets: &[u8], state: usize) -> bool
     requires { (state < length labels.now) × (state * bytes + bytes ≤ length targets.now) }
     ensures { result ≡ dead labels.now targets.now state }
 {
@@ -70,7 +70,7 @@ fn is_dead<'a>(labels: &'a [u8], targets: &'a [u8], state: usize) -> bool
 
 // The first dead state, or the count of states where there is none.
 // Kept as a number, since the walk compares each state with it: an Option would be turned back into this number before the first word.
-pub fn dead_state<'a>(count: usize, labels: &'a [u8], targets: &'a [u8]) -> usize
+pub fn dead_state(count: usize, labels: &[u8], targets: &[u8]) -> usize
     requires { Walkable count labels.now targets.now }
     ensures { result ≡ dead_of count labels.now targets.now }
 {
@@ -94,7 +94,7 @@ fn best_word(at: usize, best: usize, label: usize) -> Option<(usize, usize)>
 }
 
 // Goes over the bytes that stay in a state. Each target is compared with the state at hand, so that no load waits for the one before.
-fn run_from<'a>(targets: &'a [u8], text: &'a [u8], state: usize, from: usize, dead: usize) -> Run
+fn run_from(targets: &[u8], text: &[u8], state: usize, from: usize, dead: usize) -> Run
     requires { (state * bytes + bytes ≤ length targets.now) × (from ≤ length text.now) }
     ensures { Ran targets.now text.now state from dead result }
 {
@@ -115,11 +115,11 @@ fn run_from<'a>(targets: &'a [u8], text: &'a [u8], state: usize, from: usize, de
 // No label can follow the dead state: the walk stops there, so that a word costs its own length and what is read past it.
 // A word that ends in a labelled state is told by a branch of its own, so that the next one need not wait for what was kept.
 // Whoever calls it has had the table tested by `table::well_formed` and its dead state found by `dead_state`, once for all words.
-pub fn next_word<'a>(
+pub fn next_word(
     count: usize,
-    labels: &'a [u8],
-    targets: &'a [u8],
-    text: &'a [u8],
+    labels: &[u8],
+    targets: &[u8],
+    text: &[u8],
     at: usize,
     dead: usize,
 ) -> Option<(usize, usize)>
@@ -162,7 +162,7 @@ fn put_word(words: &mut [Word], at: usize, w: Word)
     words[at] = w;
 }
 
-// What a slice is made of that words are put into, one after another: for how many it has room, and what it is with the word of a number in it.
+// What words are put into: `room` is how many a slice of these takes, and `put` the slice with one more word in it, under its number.
 trait Slot {
     ghost room: { List Self → ℕ };
 
@@ -209,12 +209,12 @@ impl Slot for usize {
     }
 }
 
-// The words from a place on are put into slots. The lent table is tested and its dead state found once for all of them.
-fn cut_into<'a, S: Slot>(
+// The words from a place on are put into slots. The lent table is tested, and its dead state found, once for all of them.
+fn cut_into<S: Slot>(
     count: usize,
-    labels: &'a [u8],
-    targets: &'a [u8],
-    text: &'a [u8],
+    labels: &[u8],
+    targets: &[u8],
+    text: &[u8],
     at: usize,
     slots: &mut [S],
 ) -> Result<Ended, Refusal>
@@ -234,15 +234,12 @@ fn cut_into<'a, S: Slot>(
         if room <= k {
             return Ok(Ended::Full(k, at));
         }
-        S::put(
-            slots,
-            k,
-            Word {
-                start: at,
-                len: len,
-                rule: rule,
-            },
-        );
+        let word = Word {
+            start: at,
+            len,
+            rule,
+        };
+        S::put(slots, k, word);
         k += 1;
         at += len;
     }
@@ -250,11 +247,11 @@ fn cut_into<'a, S: Slot>(
 }
 
 // The words from a place on go into cells, three for each.
-pub fn cut_from<'a>(
+pub fn cut_from(
     count: usize,
-    labels: &'a [u8],
-    targets: &'a [u8],
-    text: &'a [u8],
+    labels: &[u8],
+    targets: &[u8],
+    text: &[u8],
     at: usize,
     records: &mut [usize],
 ) -> Result<Ended, Refusal>
@@ -264,11 +261,11 @@ pub fn cut_from<'a>(
 }
 
 // The words of the text go into the list.
-pub fn cut<'a>(
+pub fn cut(
     count: usize,
-    labels: &'a [u8],
-    targets: &'a [u8],
-    text: &'a [u8],
+    labels: &[u8],
+    targets: &[u8],
+    text: &[u8],
     words: &mut [Word],
 ) -> Result<Ended, Refusal>
     ensures { CutsWords count labels.now targets.now text.now words.old words.new result }

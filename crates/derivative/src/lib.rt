@@ -2,39 +2,34 @@
 // Each result on the way is counted, and where one has more than 255 nodes the answer is None.
 #![tactic(auto)]
 
-ghost use Rattle.std.specs.Prelude.{true, ◌≡◌, ◌+◌, ◌≤◌, min};
+ghost use Rattle.std.specs.Prelude.{true, ◌≡◌, ◌+◌, ◌≤◌};
 ghost use Rattle.number.specs.Limits.{last_byte};
 ghost use Rattle.meaning.specs.Edges.{next_edge};
 ghost use Rattle.meaning.specs.Limited.{short};
 ghost use Rattle.term.specs.Cells.{term, Sound};
-ghost use Rattle.term.specs.Nodes.{Fields};
+ghost use Rattle.term.specs.Nodes.{kind_of, Fields};
 ghost use Rattle.normal.specs.Asked.{CountedLinks};
-ghost use Rattle.derivative.specs.Derives.{Derives, leaf_left, rest_of, sided as sided_kind, both_sides, join_of, Rested, Derived};
+ghost use Rattle.derivative.specs.Derives.{Derives, leaf_left, rest_of, both_sides, join_of, Rested, Derived};
 ghost use Rattle.derivative.specs.Waiting.{leaf_edge};
 
 use meaning::Join;
 use merged::merge_short;
 use normal::{Built, cat_fit, negated_fit, store};
 use number::limits::BYTES;
-use term::{
-    ALT, AND, CAT, NOT, RANGE, Term, WAITING, arity, first_of, kind_of, node_at, nullable,
-    second_of,
-};
+use term::{Term, WAITING, arity, first_of, node_at, nullable, second_of};
 
 // What a term without parts leaves to match after a byte: only a range leaves something, where the byte lies in it.
 fn leaf_left(node: Term, byte: usize) -> Term
     ensures { result ≡ leaf_left node byte }
 {
-    if kind_of(node) != RANGE {
+    let Term::Range(lo, hi) = node else {
         return Term::Nothing;
+    };
+    if lo <= byte && byte <= hi {
+        Term::Empty
+    } else {
+        Term::Nothing
     }
-    if byte < first_of(node) {
-        return Term::Nothing;
-    }
-    if second_of(node) < byte {
-        return Term::Nothing;
-    }
-    Term::Empty
 }
 
 // What stands behind a node's first part: the second one, or where there is none the node itself.
@@ -47,46 +42,39 @@ fn rest_of(node: Term, i: usize) -> usize
     second_of(node)
 }
 
-// Whether the derivative goes to both sides of a node and leaves nothing behind the first.
-fn sided(kind: usize) -> bool
-    ensures { result ≡ sided_kind kind }
-{
-    kind == ALT || kind == AND
-}
-
-// What the first part's derivative becomes: in a Not it is turned, else the rest stands behind it.
-fn with_rest(cells: &mut [u64], top: usize, kind: usize, da: usize, rest: usize) -> Option<Built>
+// What the first part's derivative becomes: in a Not it is turned, where the derivative goes to both sides of the node it stands as it is,
+// else the rest stands behind it.
+fn with_rest(cells: &mut [u64], top: usize, node: Term, da: usize, rest: usize) -> Option<Built>
     requires { CountedLinks cells.old top da rest }
-    ensures { Rested cells.old top kind da rest cells.new result }
+    ensures { Rested cells.old top (kind_of node) da rest cells.new result }
 {
-    if sided(kind) {
-        return Some(Built { root: da, top });
+    match node {
+        Term::Alt(_, _) | Term::And(_, _) => Some(Built { root: da, top }),
+        Term::Not(_) => negated_fit(cells, top, da),
+        _ => cat_fit(cells, top, da, rest),
     }
-    if kind == NOT {
-        return negated_fit(cells, top, da);
-    }
-    cat_fit(cells, top, da, rest)
 }
 
 // Whether the second side's derivative is joined to that: in a Cat only where the first side matches the empty text.
-fn both_sides(cells: &[u64], kind: usize, a: usize) -> bool
+fn both_sides(cells: &[u64], node: Term, a: usize) -> bool
     requires { Sound cells.now (a + 1) }
-    ensures { result ≡ both_sides kind (term cells.now a) }
+    ensures { result ≡ both_sides (kind_of node) (term cells.now a) }
 {
-    if kind == CAT {
-        return nullable(cells, a);
+    match node {
+        Term::Cat(_, _) => nullable(cells, a),
+        Term::Alt(_, _) | Term::And(_, _) => true,
+        _ => false,
     }
-    sided(kind)
 }
 
 // And how: in an And both at once, else as a choice.
-fn join_of(kind: usize) -> Join
-    ensures { result ≡ join_of kind }
+fn join_of(node: Term) -> Join
+    ensures { result ≡ join_of (kind_of node) }
 {
-    if kind == AND {
-        return Join::Both;
+    match node {
+        Term::And(_, _) => Join::Both,
+        _ => Join::Or,
     }
-    Join::Or
 }
 
 // The derivative of a term by a byte. That of the second side is worked out only where it is joined.
@@ -100,40 +88,29 @@ pub fn derive(cells: &mut [u64], top: usize, i: usize, byte: usize) -> Option<Bu
     if arity(node) == 0 {
         return Some(store(cells, top, leaf_left(node, byte)));
     }
-    let kind = kind_of(node);
     let a = first_of(node);
     let rest = rest_of(node, i);
     let da = derive(cells, top, a, byte)?;
-    let left = with_rest(cells, da.top, kind, da.root, rest)?;
-    if both_sides(cells, kind, a) {
+    let left = with_rest(cells, da.top, node, da.root, rest)?;
+    if both_sides(cells, node, a) {
         let db = derive(cells, left.top, rest, byte)?;
-        return merge_short(cells, db.top, left.root, db.root, join_of(kind));
+        return merge_short(cells, db.top, left.root, db.root, join_of(node));
     }
     Some(left)
 }
 
-fn smaller(m: usize, n: usize) -> usize
-    ensures { result ≡ min m n }
-{
-    if m < n {
-        return m;
-    }
-    n
-}
-
 // The next byte at which a term without parts has an edge, or the number of bytes if there is none.
+#[tactic(auto, unfolding(meaning::specs::Edges::range_edge))]
 fn leaf_edge(leaf: Term, byte: usize) -> usize
     requires { Fields leaf }
     ensures { result ≡ leaf_edge leaf byte }
 {
-    if kind_of(leaf) != RANGE {
+    let Term::Range(lo, hi) = leaf else {
         return BYTES;
-    }
-    let lo = first_of(leaf);
+    };
     if byte < lo {
         return lo;
     }
-    let hi = second_of(leaf);
     if byte <= hi {
         return hi + 1;
     }
@@ -160,7 +137,7 @@ pub fn next_edge(cells: &[u64], i: usize, byte: usize) -> usize
         let node = node_at(cells, at);
         let children = arity(node);
         if children == 0 {
-            least = smaller(least, leaf_edge(node, byte));
+            least = least.min(leaf_edge(node, byte));
             if count == 0 {
                 return least;
             }

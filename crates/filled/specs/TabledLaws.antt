@@ -1,13 +1,12 @@
 -- Laws for the loops over all rows and over the labels, and from rows and labels to a table.
 -- What was reached so far stands in the area, and in front of what remains it is the whole walk.
-use Rattle.std.specs.Prelude.{ℕ, ◌+◌, ◌*◌, ◌<◌, ◌≤◌, ◌≡◌, List, [], ◌∷◌, ◌++◌, length, take, set}
+use Rattle.std.specs.Prelude.{ℕ, ◌+◌, ◌*◌, ◌<◌, ◌≤◌, ◌≡◌, List, [], ◌∷◌, ◌++◌, length, take, set, Result, Ok, Err}
 use Rattle.std.proofs.Common.{arith, sym, ap, subst, ◌∙◌, length-append}
 use Rattle.std.proofs.lemmas.List.{map-append, length-map}
 use Rattle.number.specs.declared.Refusal.{Refusal}
 use Rattle.number.specs.Limits.{rules, bytes, states, table_cells, pool}
 use Rattle.number.specs.Lists.{written, take_written, stored_one}
 use Rattle.meaning.specs.Rules.{label}
-use Rattle.table.specs.declared.Counted.TheVariants.{States, Refused}
 use Rattle.walk.specs.Walk.{Item, Walked, row, rows}
 use Rattle.walk.specs.Walk.Walked.{halted}
 use Rattle.vector.specs.Vectors.{vector_of}
@@ -15,8 +14,7 @@ use Rattle.vector.specs.Memory.{numbers_at, item_of, items_of, held_of, Kept}
 use Rattle.vector.specs.Promises.{Within, Reads}
 use Rattle.vector.specs.PlaceLaws.{vector_length}
 use Rattle.vector.specs.MemoryLaws.{items_length, items_next}
-use Rattle.steps.specs.declared.Stepped.{Stepped}
-use Rattle.steps.specs.declared.Stepped.TheVariants.{Reached, Stopped}
+use Rattle.steps.specs.declared.Extent.{Extent}
 use Rattle.steps.specs.RowLaws.{Rowed, rowed_first, rowed_end, rowed_stop, rowed_next}
 use Rattle.steps.specs.CallLaws.{kept_reads}
 use Rattle.built.specs.Build.{alone, table_of, built_of}
@@ -55,8 +53,8 @@ rowing_first {s} {n} {top} {count} {t} f =
     }
 
 module _ {before : ℕ} {w : Walked} {t₀ s : List ℕ} {n top count i : ℕ} {t : List ℕ} (f : Rowing before w t₀ s n top count i t) where
-  pub rowing_end : (j : ℕ) → count ≤ i → RowsComes s n before w t₀ t (Reached top count j)
-  rowing_end j h =
+  pub rowing_end : count ≤ i → RowsComes s n before w t₀ t (Ok (record { top = top; count = count }))
+  rowing_end h =
       record {
         numbers = f.numbers;
         walks = rowed_end alone i (held_of s n top count) f.numbers w f.rowed (omega (arith, items_length s n count));
@@ -71,25 +69,24 @@ module _ {before : ℕ} {w : Walked} {t₀ s : List ℕ} {n top count i : ℕ} {
   pub rowing_fillable : table_cells ≤ length t → Fillable s n top count t
   rowing_fillable room = record { kept = f.kept; low = f.low; few = f.few; room = room }
 
-  module _ (more : i < count) {s₁ t₁ : List ℕ} {r : Stepped} (x : RowFilled s n top count i t s₁ t₁ r) where
+  module _ (more : i < count) {s₁ t₁ : List ℕ} {r : Result Extent Refusal} (x : RowFilled s n top count i t s₁ t₁ r) where
     here : i < length (items_of s n count)
     here = omega (arith, items_length s n count)
 
-    pub rowing_stop : {q : Refusal} → r ≡ Stopped q → RowsComes s₁ n before w t₀ t₁ r
+    pub rowing_stop : {q : Refusal} → r ≡ Err q → RowsComes s₁ n before w t₀ t₁ (Err q)
     rowing_stop {q} z =
         let halt : row alone i bytes 0 (held_of s n top count) ≡ halted q =
         subst (RowComes s₁ n count (row alone i bytes 0 (held_of s n top count)) t i t₁) z x.comes in
-        subst (RowsComes s₁ n before w t₀ t₁) (sym z)
-        (rowed_stop alone i (held_of s n top count) f.numbers w f.rowed here (omega (arith, f.few)) q halt)
+        rowed_stop alone i (held_of s n top count) f.numbers w f.rowed here (omega (arith, f.few)) q halt
 
-    pub rowing_more : {top₁ count₁ j : ℕ} → r ≡ Reached top₁ count₁ j → Rowing before w t₀ s₁ n top₁ count₁ (i + 1) t₁
-    rowing_more {top₁} {count₁} {j} z =
-        let g : Laid s₁ n count top₁ count₁ (row alone i bytes 0 (held_of s n top count)) t (i * bytes) t₁ (i * bytes + bytes) =
+    pub rowing_more : {y : Extent} → r ≡ Ok y → Rowing before w t₀ s₁ n y.top y.count (i + 1) t₁
+    rowing_more {y} z =
+        let g : Laid s₁ n count y.top y.count (row alone i bytes 0 (held_of s n top count)) t (i * bytes) t₁ (i * bytes + bytes) =
         subst (RowComes s₁ n count (row alone i bytes 0 (held_of s n top count)) t i t₁) z x.comes in
         record {
           numbers = f.numbers ++ g.numbers;
           rowed =
-              rowed_next alone i (held_of s n top count) f.numbers w f.rowed here (omega (arith, f.few)) (held_of s₁ n top₁ count₁)
+              rowed_next alone i (held_of s n top count) f.numbers w f.rowed here (omega (arith, f.few)) (held_of s₁ n y.top y.count)
               g.numbers g.walks;
           laid =
               laid_on t₀ t t₁ f.numbers g.numbers 0 (i * bytes) (omega arith) f.laid (omega (arith, f.many)) g.laid;
@@ -139,35 +136,35 @@ laid_front t t' js m e p =
     let q : m ≡ 0 + length js = omega arith in
     rw (e, q) (take_written t 0 js (omega arith))
 
-module _ {s : List ℕ} {n top count : ℕ} {t s₁ t₁ : List ℕ} {r : Stepped} (x : RowsFilled s n top count t s₁ t₁ r) where
-  pub table_stop : {q : Refusal} (l : List ℕ) → r ≡ Stopped q → Tabled (built_of (rows alone states 0 (held_of s n top count))) l t₁ (Refused q)
+module _ {s : List ℕ} {n top count : ℕ} {t s₁ t₁ : List ℕ} {r : Result Extent Refusal} (x : RowsFilled s n top count t s₁ t₁ r) where
+  pub table_stop : {q : Refusal} (l : List ℕ) → r ≡ Err q → Tabled (built_of (rows alone states 0 (held_of s n top count))) l t₁ (Err q)
   table_stop {q} l e =
       record { comes = ap built_of (subst (RowsComes s₁ n count (rows alone states 0 (held_of s n top count)) t t₁) e x.comes) }
 
-  module _ {top₁ count₁ j : ℕ} (e : r ≡ Reached top₁ count₁ j) where
-    rows_laid : Laid s₁ n count top₁ count₁ (rows alone states 0 (held_of s n top count)) t 0 t₁ (count₁ * bytes)
+  module _ {y : Extent} (e : r ≡ Ok y) where
+    rows_laid : Laid s₁ n count y.top y.count (rows alone states 0 (held_of s n top count)) t 0 t₁ (y.count * bytes)
     rows_laid = subst (RowsComes s₁ n count (rows alone states 0 (held_of s n top count)) t t₁) e x.comes
 
-    pub table_labelled : {l : List ℕ} → states ≤ length l → Labelled s₁ n count₁ l
+    pub table_labelled : {l : List ℕ} → states ≤ length l → Labelled s₁ n y.count l
     table_labelled room =
         let g = rows_laid in
         record { long = g.kept.long; few = g.few; reads = λ k h. kept_reads k g.kept h; room = room }
 
-    pub table_done : (l : List ℕ) {l₁ : List ℕ} → l₁ ≡ written l 0 (labels_of (items_of s₁ n count₁))
-        → Tabled (built_of (rows alone states 0 (held_of s n top count))) l₁ t₁ (States count₁)
-    table_done l {l₁} y =
+    pub table_done : (l : List ℕ) {l₁ : List ℕ} → l₁ ≡ written l 0 (labels_of (items_of s₁ n y.count))
+        → Tabled (built_of (rows alone states 0 (held_of s n top count))) l₁ t₁ (Ok y.count)
+    table_done l {l₁} d =
         let g = rows_laid in
-        let h = held_of s₁ n top₁ count₁ in
+        let h = held_of s₁ n y.top y.count in
         record {
           comes =
               record {
                 table = table_of h g.numbers;
                 built = ap built_of g.walks;
-                many = items_length s₁ n count₁;
+                many = items_length s₁ n y.count;
                 few = g.few;
                 labels =
-                    laid_front l l₁ (labels_of (items_of s₁ n count₁)) count₁ y
-                    (length-map (items_of s₁ n count₁) (λ (z : Item). label z.vector) ∙ items_length s₁ n count₁);
-                targets = laid_front t t₁ g.numbers (count₁ * bytes) g.laid (omega (arith, g.ends));
+                    laid_front l l₁ (labels_of (items_of s₁ n y.count)) y.count d
+                    (length-map (items_of s₁ n y.count) (λ (z : Item). label z.vector) ∙ items_length s₁ n y.count);
+                targets = laid_front t t₁ g.numbers (y.count * bytes) g.laid (omega (arith, g.ends));
               };
         }

@@ -12,35 +12,29 @@ ghost use Rattle.built.specs.Build.{alone, built_of};
 ghost use Rattle.row.specs.Fill.{Fillable};
 ghost use Rattle.filled.specs.Tabled.{RowsFilled, Labelled, labels_of, Tabled};
 
-use steps::Stepped;
-use table::Counted;
+use number::Refusal;
+use steps::Extent;
 
-// The rows of all items, those found on the way too; the answer is as above.
+// The rows of all items, those found on the way too; the answer tells what is held then.
 fn fill_rows(
     index: &mut [u16],
     cells: &mut [u64],
-    top: usize,
-    count: usize,
+    held: Extent,
     n: usize,
     targets: &mut [u8],
-) -> Stepped
-    requires fillable { Fillable cells.old n top count targets.old }
-    requires indexed { Indexed index.old cells.old top }
-    ensures { RowsFilled cells.old n top count targets.old cells.new targets.new result }
+) -> Result<Extent, Refusal>
+    requires fillable { Fillable cells.old n held.top held.count targets.old }
+    requires indexed { Indexed index.old cells.old held.top }
+    ensures { RowsFilled cells.old n held.top held.count targets.old cells.new targets.new result }
 {
-    let mut next = top;
-    let mut held = count;
+    let mut next = held;
     let mut i: usize = 0;
-    while i < held {
-        let made = row::fill_row(index, cells, next, held, n, i, targets);
-        let Stepped::Reached(above, more, _) = made else {
-            return made;
-        };
-        next = above;
-        held = more;
+    // Kept as a `while`: a row adds items, and the end of a range would stand before the first.
+    while i < next.count {
+        next = row::fill_row(index, cells, next, n, i, targets)?;
         i += 1;
     }
-    Stepped::Reached(next, held, 0)
+    Ok(next)
 }
 
 // The label of each item.
@@ -48,10 +42,8 @@ fn fill_labels(cells: &[u64], n: usize, count: usize, labels: &mut [u8])
     requires { Labelled cells.now n count labels.old }
     ensures { labels.new ≡ written labels.old 0 (labels_of (items_of cells.now n count)) }
 {
-    let mut i: usize = 0;
-    while i < count {
+    for i in 0..count {
         labels[i] = vector::label_of(cells, vector::load(cells, i), 0, n) as u8;
-        i += 1;
     }
 }
 
@@ -59,24 +51,18 @@ fn fill_labels(cells: &[u64], n: usize, count: usize, labels: &mut [u8])
 pub fn fill_table(
     index: &mut [u16],
     cells: &mut [u64],
-    top: usize,
-    count: usize,
+    held: Extent,
     n: usize,
     labels: &mut [u8],
     targets: &mut [u8],
-) -> Counted
-    requires fillable { Fillable cells.old n top count targets.old }
+) -> Result<usize, Refusal>
+    requires fillable { Fillable cells.old n held.top held.count targets.old }
     requires states_in_bounds { states ≤ length labels.old }
-    requires indexed { Indexed index.old cells.old top }
-    ensures { Tabled (built_of (rows alone states 0 (held_of cells.old n top count)))
+    requires indexed { Indexed index.old cells.old held.top }
+    ensures { Tabled (built_of (rows alone states 0 (held_of cells.old n held.top held.count)))
         labels.new targets.new result }
 {
-    let made = fill_rows(index, cells, top, count, n, targets);
-    match made {
-        Stepped::Stopped(r) => Counted::Refused(r),
-        Stepped::Reached(_, held, _) => {
-            fill_labels(cells, n, held, labels);
-            Counted::States(held)
-        }
-    }
+    let made = fill_rows(index, cells, held, n, targets)?;
+    fill_labels(cells, n, made.count, labels);
+    Ok(made.count)
 }

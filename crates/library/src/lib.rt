@@ -42,7 +42,7 @@ pub fn lubi_well_formed<'a>(
         ≡ packed told_count (tested (well_formed count labels.now targets.now)) }
 {
     if table::well_formed(count, labels, targets) {
-        return packed::give(answer, 0, 0, 0, 0);
+        return packed::give(answer, [0; CELLS]);
     }
     packed::refuse(answer, Refusal::Loaded)
 }
@@ -66,7 +66,7 @@ pub fn lubi_build(
         ≡ (build_of book.now labels.old targets.old work.old).work }
 {
     let found = building::build(book, labels, targets, work);
-    packed::tell_states(answer, found)
+    packed::tell_count(answer, found)
 }
 
 // A sheet is read into the table area.
@@ -82,7 +82,7 @@ pub fn lubi_load(
     ensures targets_after { targets.new ≡ (load_of sheet.now labels.old targets.old).targets }
 {
     let found = loading::load(sheet, labels, targets);
-    packed::tell_states(answer, found)
+    packed::tell_count(answer, found)
 }
 
 // A table is written as its sheet.
@@ -98,7 +98,7 @@ pub fn lubi_write_sheet<'a>(
     ensures out_after { out.new ≡ (write_of count labels.now targets.now out.old).out }
 {
     let found = writing::write_sheet(count, labels, targets, out);
-    packed::tell_bytes(answer, found)
+    packed::tell_count(answer, found)
 }
 
 // A text of typed rules becomes a rule book.
@@ -107,7 +107,7 @@ pub fn lubi_type(text: &[u8], out: &mut [u8], answer: &mut [usize; CELLS]) -> us
     ensures out_after { out.new ≡ (type_of text.now out.old).out }
 {
     let found = typing::type_rules(text, out);
-    packed::tell_bytes(answer, found)
+    packed::tell_count(answer, found)
 }
 
 // The words of a text from a place on go into cells, three for each.

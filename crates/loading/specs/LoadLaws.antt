@@ -1,15 +1,10 @@
--- Laws of load, one for each of its returns: what was read, filled up with 0, is what table's Calls says.
+-- The law of load where a sheet was read: what was read, filled up with 0, is what table's Calls says. Its refusals need none.
 -- Filling goes to the end of the lent memory, so that nothing of what stood there before is left.
-use Rattle.std.specs.Prelude.{ℕ, ◌+◌, ◌-◌, ◌*◌, ◌≤◌, ◌<◌, ◌≡◌, refl, List, ◌++◌, length, replicate}
-use Rattle.std.proofs.Common.{zero-add, arith, sym, ap, ◌∙◌, append-nil, lt-ltb, le-ltb, length-append, drop_of_length-le}
-use Rattle.std.proofs.Math.Nat.{sub-zero}
+use Rattle.std.specs.Prelude.{ℕ, ◌+◌, ◌-◌, ◌*◌, ◌≤◌, ◌≡◌, refl, Ok, List, ◌++◌, length, replicate}
+use Rattle.std.proofs.Common.{zero-add, arith, sym, ap, ◌∙◌, append-nil, le-ltb, length-append, drop_of_length-le}
 use Rattle.std.proofs.lemmas.List.{length-replicate}
-use Rattle.number.specs.declared.Refusal.{Refusal}
-use Rattle.number.specs.declared.Refusal.TheVariants.{Room}
 use Rattle.number.specs.Limits.{states, bytes, table_cells}
-use Rattle.number.specs.Refused.Answer.{refused}
 use Rattle.number.specs.Lists.{written, written_more}
-use Rattle.table.specs.declared.Counted.TheVariants.{States, Refused}
 use Rattle.table.specs.Sheet.{read_sheet}
 use Rattle.table.specs.Calls.{padded, load_read, load_of}
 use Rattle.table.specs.Promises.{Loads}
@@ -21,12 +16,6 @@ unfolding written
 written_whole s w e =
     let over : length s ≤ 0 + length w = omega arith in
     rw (drop_of_length-le s over, append-nil w)
-
-cleared_whole : (s s' : List ℕ) (n : ℕ) → n ≡ length s → s' ≡ written s 0 (replicate (n - 0) 0) → s' ≡ replicate n 0
-cleared_whole s s' n e f =
-    let zeros : List ℕ = replicate n 0 in
-    let size : length zeros ≡ length s = length-replicate n 0 ∙ e in
-    f ∙ rw sub-zero (written_whole s zeros size)
 
 padded_whole : (s s' cells : List ℕ) (n at : ℕ) → n ≡ length s → at ≡ length cells → at ≤ n
     → s' ≡ written (written s 0 cells) at (replicate (n - at) 0) → s' ≡ padded n cells
@@ -40,49 +29,19 @@ padded_whole s s' cells n at e f h g =
     ∙ written_whole s (cells ++ rest) size
 
 module _ (file l t : List ℕ) where
-  pub load_few_labels : length l < states → Loads file l t l t (Refused Room)
-  load_few_labels h =
-      record {
-        answer = simp (lt-ltb _ _ h);
-        row = simp (lt-ltb _ _ h);
-        labels = simp (lt-ltb _ _ h);
-        targets = simp (lt-ltb _ _ h);
-      }
-
-  pub load_few_targets : states ≤ length l → length t < table_cells → Loads file l t l t (Refused Room)
-  load_few_targets h k =
-      record {
-        answer = simp (le-ltb _ _ h, lt-ltb _ _ k);
-        row = simp (le-ltb _ _ h, lt-ltb _ _ k);
-        labels = simp (le-ltb _ _ h, lt-ltb _ _ k);
-        targets = simp (le-ltb _ _ h, lt-ltb _ _ k);
-      }
-
   module _ (room_labels : states ≤ length l) (room_targets : table_cells ≤ length t) where
     -- with room, what was read decides
     load_is : load_of file l t ≡ load_read l t (read_sheet file)
     load_is = simp (le-ltb _ _ room_labels, le-ltb _ _ room_targets)
 
-    pub load_refused : (l1 t1 : List ℕ) {l2 t2 : List ℕ} {q : Refusal} → read_sheet file ≡ refused q
-        → length l1 ≡ length l → l2 ≡ written l1 0 (replicate (length l - 0) 0)
-        → length t1 ≡ length t → t2 ≡ written t1 0 (replicate (length t - 0) 0)
-        → Loads file l t l2 t2 (Refused q)
-    load_refused l1 t1 {l2} {t2} e m f n g =
-        record {
-          answer = rw (load_is, e);
-          row = rw (load_is, e);
-          labels = cleared_whole l1 l2 (length l) (sym m) f ∙ rw (load_is, e);
-          targets = cleared_whole t1 t2 (length t) (sym n) g ∙ rw (load_is, e);
-        }
-
     pub load_got : {next count : ℕ} {l1 t1 l2 t2 : List ℕ} → SheetGot file l t l1 t1 count next
-        → l2 ≡ written l1 count (replicate (length l - count) 0)
-        → t2 ≡ written t1 (count * bytes) (replicate (length t - count * bytes) 0)
-        → Loads file l t l2 t2 (States count)
-    load_got {count = count} {l2 = l2} {t2 = t2} s f g =
+        → length l1 ≡ length l → l2 ≡ written l1 count (replicate (length l1 - count) 0)
+        → length t1 ≡ length t → t2 ≡ written t1 (count * bytes) (replicate (length t1 - count * bytes) 0)
+        → Loads file l t l2 t2 (Ok count)
+    load_got {count = count} {l2 = l2} {t2 = t2} s m f n g =
         let few : count ≤ states = s.few in
-        let labelled = padded_whole l l2 s.table.labels (length l) count refl s.labelled (omega arith) (rw s.labels at f) in
-        let targeted = padded_whole t t2 s.table.targets (length t) (count * bytes) refl s.targeted (omega arith) (rw s.targets at g) in
+        let labelled = padded_whole l l2 s.table.labels (length l) count refl s.labelled (omega arith) (rw (m, s.labels) at f) in
+        let targeted = padded_whole t t2 s.table.targets (length t) (count * bytes) refl s.targeted (omega arith) (rw (n, s.targets) at g) in
         record {
           answer = rw (load_is, s.is, s.counted);
           row = rw (load_is, s.is);

@@ -4,35 +4,28 @@
 
 ghost use Rattle.table.specs.Promises.{Loads};
 
+use number::Refusal;
 use number::limits::{BYTES, STATES, TABLE_CELLS};
-use number::{Refusal, Taken};
 use reading::read_sheet;
-use table::{Counted, fill};
 
 // A sheet is read into the table area. The area is gone over once: the states that were read stay, all else is made 0.
-pub fn load(sheet: &[u8], labels: &mut [u8], targets: &mut [u8]) -> Counted
+pub fn load(sheet: &[u8], labels: &mut [u8], targets: &mut [u8]) -> Result<usize, Refusal>
     ensures { Loads sheet.now labels.old targets.old
         labels.new targets.new result }
 {
-    let labels_end = labels.len();
-    let targets_end = targets.len();
-    if labels_end < STATES {
-        return Counted::Refused(Refusal::Room);
+    if labels.len() < STATES || targets.len() < TABLE_CELLS {
+        return Err(Refusal::Room);
     }
-    if targets_end < TABLE_CELLS {
-        return Counted::Refused(Refusal::Room);
-    }
-    let got = read_sheet(sheet, labels, targets);
-    match got {
-        Taken::Value(count, _) => {
-            fill(labels, count, labels_end, 0);
-            fill(targets, count * BYTES, targets_end, 0);
-            Counted::States(count)
+    match read_sheet(sheet, labels, targets) {
+        Ok((count, _)) => {
+            labels[count..].fill(0);
+            targets[count * BYTES..].fill(0);
+            Ok(count)
         }
-        Taken::Refused(r) => {
-            fill(labels, 0, labels_end, 0);
-            fill(targets, 0, targets_end, 0);
-            Counted::Refused(r)
+        Err(refusal) => {
+            labels.fill(0);
+            targets.fill(0);
+            Err(refusal)
         }
     }
 }

@@ -49,15 +49,6 @@ pub record Turned (s : List ℕ) (top end : ℕ) (s' : List ℕ) : Type 0 where
   pub wasted : Wasted s top s' end
   pub turned : (j : ℕ) → top ≤ j → j < end → get_or s' j 0 ≡ get_or s (top + end - 1 - j) 0
 
--- on the way: all but the cells from low to high are turned
-pub record Turning (s : List ℕ) (top end : ℕ) (l : List ℕ) (low high : ℕ) : Type 0 where
-  pub even : low + high ≡ top + end
-  pub up : top ≤ low
-  pub apart : low ≤ high
-  pub wasted : Wasted s top l end
-  pub inner : (j : ℕ) → low ≤ j → j < high → get_or l j 0 ≡ get_or s j 0
-  pub outer : (j : ℕ) → top ≤ j → j < end → (low ≤ j → j < high → ⊥) → get_or l j 0 ≡ get_or s (top + end - 1 - j) 0
-
 -- ---- nesting
 
 -- one node a member, in the cells of the list

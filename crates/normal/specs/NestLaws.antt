@@ -1,8 +1,11 @@
 -- Laws of members that are listed, turned around and nested: one for each place of the loops, and what listing and nesting make together.
 -- Both operators go by the same laws.
-use Rattle.std.specs.Prelude.{ℕ, zero, suc, ◌+◌, ◌-◌, ◌<◌, ◌≤◌, ◌≡◌, refl, List, length, get_or, set}
-use Rattle.std.proofs.Common.{arith, sym, ap, ◌∙◌, length-set, get_or-set_same, get_or-set_other, below_more}
-use Rattle.std.proofs.Math.Decide.{ℕ_discrete, dec_lt}
+use Rattle.std.specs.Prelude.{ℕ, zero, suc, ◌+◌, ◌-◌, ◌<◌, ◌≤◌, ◌≡◌, refl, List, ◌++◌, length, get_or, set, take, drop}
+use Rattle.std.proofs.Common.{arith, sym, ap, ◌∙◌, length-set, length-take, length-drop, get_or-take, get_or-drop, get_or-set_same, get_or-set_other, below_more}
+use Rattle.std.specs.List.{ReversedBelow}
+use Rattle.std.proofs.lemmas.List.{get_or_append_left, get_or-append_right, length-append}
+use Rattle.std.proofs.lemmas.List.Edits.{get_or-between}
+use borrow.Rule.Slice.PartMut.{put_mid}
 use Rattle.meaning.specs.declared.Join.{Join}
 use Rattle.meaning.specs.declared.Join.TheVariants.{Then, Or, Both}
 use Rattle.meaning.specs.Re.{Re}
@@ -13,7 +16,7 @@ use Rattle.term.specs.Area.{Makes}
 use Rattle.term.specs.Nodes.{Pushed}
 use Rattle.term.specs.CellLaws.{frame, sound_same}
 use Rattle.term.specs.declared.Built.{Built}
-use Rattle.normal.specs.Nest.{join_node, nested, Listing, Lists, Turned, Turning, Nests, Nesting}
+use Rattle.normal.specs.Nest.{join_node, nested, Listing, Lists, Turned, Nests, Nesting}
 
 -- ---- joining
 
@@ -47,67 +50,39 @@ nested_none k s l top n r e = rw (e, nested)
 
 -- ---- turning around
 
-pub turning_first : (s : List ℕ) {top end : ℕ} → top ≤ end → Turning s top end s top end
-turning_first s h =
-    record {
-      even = refl;
-      up = omega arith;
-      apart = h;
-      wasted = record { same_length = refl; kept_below = λ j k. refl; kept_above = λ j k. refl };
-      inner = λ j g k. refl;
-      outer = λ j g k n. absurd (n g k);
-    }
+-- the part of the cells from top to end is turned around by itself
+module _ (s : List ℕ) {top end : ℕ} (ys : List ℕ) (up : top ≤ end) (room : end ≤ length s) where
+  abbrev part : List ℕ
+  part = take (end - top) (drop top s)
 
-module _ {s : List ℕ} {top end : ℕ} {l : List ℕ} {low high : ℕ} (t : Turning s top end l low high) where
-  mirror : (i j : ℕ) → i ≡ top + end - 1 - j → get_or s i 0 ≡ get_or s (top + end - 1 - j) 0
-  mirror i j e = ap (λ (a : ℕ). get_or s a 0) e
+  abbrev after : List ℕ
+  after = take top s ++ (ys ++ drop (end - top) (drop top s))
 
-  -- one cell in the middle may be left
-  pub turned_all : high ≤ low + 1 → Turned s top end l
-  turned_all n =
+  part_long : length part ≡ end - top
+  part_long = simp (length-take, length-drop) (omega arith)
+
+  front_long : length (take top s) ≡ top
+  front_long = simp length-take (omega arith)
+
+  pub turned_around : length ys ≡ length part → ReversedBelow part ys (length part) → Turned s top end (put_mid top (end - top) s ys)
+  turned_around long turned =
+      let size : length ys ≡ end - top = long ∙ part_long in
+      let behind : (i : ℕ) → top ≤ i → get_or after i 0 ≡ get_or (ys ++ drop (end - top) (drop top s)) (i - top) 0 =
+      λ i h. get_or-append_right (take top s) (ys ++ drop (end - top) (drop top s)) top i 0 front_long h in
       record {
-        wasted = t.wasted;
-        turned = λ j g h. elim (dec_lt j low) [
-          | yes a ↦ t.outer j g h (λ x y. omega arith)
-          | no a ↦ elim (dec_lt j high) [
-            | yes b ↦ t.inner j (omega arith) b ∙ mirror j j (omega (arith, t.even))
-            | no b ↦ t.outer j g h (λ x y. omega arith)
-          ]
-        ];
-      }
-
-  pub turning_next : end ≤ length s → low + 1 < high
-      → Turning s top end (set (set l low (get_or l (high - 1) 0)) (high - 1) (get_or l low 0)) (low + 1) (high - 1)
-  turning_next room h =
-      let even = t.even in
-      let up = t.up in
-      let long = t.wasted.same_length in
-      let y = get_or l (high - 1) 0 in
-      let x = get_or l low 0 in
-      let l₁ = set l low y in
-      let l₂ = set l₁ (high - 1) x in
-      let long₁ : length l₁ ≡ length l = length-set l low y in
-      let at_low : get_or l₂ low 0 ≡ y = get_or-set_other l₁ (high - 1) low x 0 (λ z. omega arith) ∙ get_or-set_same l low y 0 (omega arith) in
-      let at_high : get_or l₂ (high - 1) 0 ≡ x = get_or-set_same l₁ (high - 1) x 0 (omega arith) in
-      let other : (j : ℕ) → (j ≡ low → ⊥) → (j ≡ high - 1 → ⊥) → get_or l₂ j 0 ≡ get_or l j 0 =
-      λ j a b. get_or-set_other l₁ (high - 1) j x 0 b ∙ get_or-set_other l low j y 0 a in
-      record {
-        even = omega arith;
-        up = omega arith;
-        apart = omega arith;
         wasted = record {
-          same_length = length-set l₁ (high - 1) x ∙ long₁ ∙ long;
-          kept_below = λ j k. other j (λ z. omega arith) (λ z. omega arith) ∙ t.wasted.kept_below j k;
-          kept_above = λ j k. other j (λ z. omega arith) (λ z. omega arith) ∙ t.wasted.kept_above j k;
+          same_length = simp (length-append, length-take, length-drop) (omega arith);
+          kept_below = λ i h.
+              get_or_append_left (take top s) (ys ++ drop (end - top) (drop top s)) 0 i (omega (arith, front_long)) ∙ get_or-take top s i 0 h;
+          kept_above = λ i h.
+              behind i (omega arith) ∙ get_or-append_right ys (drop (end - top) (drop top s)) (end - top) (i - top) 0 size (omega arith)
+              ∙ get_or-drop (end - top) (drop top s) (i - top - (end - top)) 0 ∙ get_or-drop top s (end - top + (i - top - (end - top))) 0
+              ∙ ap (λ (a : ℕ). get_or s a 0) (omega arith);
         };
-        inner = λ j g k. other j (λ z. omega arith) (λ z. omega arith) ∙ t.inner j (omega arith) (omega arith);
-        outer = λ j g k n. elim (ℕ_discrete j low) [
-          | yes e ↦ rw e (at_low ∙ t.inner (high - 1) (omega arith) (omega arith) ∙ mirror (high - 1) low (omega arith))
-          | no a ↦ elim (ℕ_discrete j (high - 1)) [
-            | yes e ↦ rw e (at_high ∙ t.inner low (omega arith) (omega arith) ∙ mirror low (high - 1) (omega arith))
-            | no b ↦ other j a b ∙ t.outer j g k (λ p q. n (omega arith) (omega arith))
-          ]
-        ];
+        turned = λ j g h.
+            behind j g ∙ get_or_append_left ys (drop (end - top) (drop top s)) 0 (j - top) (omega arith)
+            ∙ turned (j - top) 0 (omega (arith, part_long)) ∙ get_or-between s top end (length part - 1 - (j - top)) 0 (omega (arith, part_long))
+            ∙ ap (λ (a : ℕ). get_or s a 0) (omega (arith, part_long));
       }
 
 -- ---- nesting

@@ -1,7 +1,7 @@
 -- What the code's tests of a node tell of its term: whether an operator joins it, whether it is Nothing or Empty.
 -- Each is over what reading the node told.
 use Rattle.std.specs.Prelude.{ℕ, ◌<◌, ◌≤◌, ◌≡◌, refl, Bool, true, false, List, [], ◌∷◌, length}
-use Rattle.std.proofs.Common.{arith, sym, ap, ◌∙◌, length-append, eqb-true}
+use Rattle.std.proofs.Common.{arith, sym, ap, ◌∙◌, length-append, eqb-true, ne_eqb}
 use Rattle.meaning.specs.declared.Join.{Join}
 use Rattle.meaning.specs.declared.Join.TheVariants.{Then, Or, Both}
 use Rattle.meaning.specs.Re.{Re, is_nothing, is_empty}
@@ -12,7 +12,7 @@ use Rattle.term.specs.declared.Term.TheVariants.{Nothing, Empty, Range, Cat, Alt
 use Rattle.term.specs.Cells.{grow, term}
 use Rattle.term.specs.Nodes.{kind_of, first_of, second_of, nothing_node, empty_node, Found}
 use Rattle.term.specs.CellLaws.{found_nothing, found_empty}
-use Rattle.term.specs.ReadLaws.{found_kind}
+use Rattle.term.specs.ReadLaws.{of_kind, found_kind}
 use Rattle.normal.specs.Asked.{members}
 use Rattle.normal.specs.Nest.{joins_node}
 
@@ -68,6 +68,13 @@ told_nothing {s} {i} {u} f e d = found_nothing s i u f ∙ sym e ∙ d
 
 pub told_empty : {s : List ℕ} {i : ℕ} {u : Term} {p q : Bool} → Found s i u → p ≡ empty_node u → p ≡ q → is_empty (term s i) ≡ q
 told_empty {s} {i} {u} f e d = found_empty s i u f ∙ sym e ∙ d
+
+-- a node that is not Nothing, and one that is not Empty
+pub not_nothing : (u : Term) → (u ≡ Nothing → ⊥) → false ≡ nothing_node u
+not_nothing u h = sym (ne_eqb (kind_of u) 0 (λ e. h (of_kind u 0 e)))
+
+pub not_empty : (u : Term) → (u ≡ Empty → ⊥) → false ≡ empty_node u
+not_empty u h = sym (ne_eqb (kind_of u) 1 (λ e. h (of_kind u 1 e)))
 
 -- every term has a member, and what is joined has more than the rest
 pub members_some : (k : Join) (r : Re) → 1 ≤ members k r

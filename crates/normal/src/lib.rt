@@ -8,12 +8,11 @@ ghost use Rattle.term.specs.Area.{pending, Room};
 ghost use Rattle.term.specs.Counts.{Countable};
 ghost use Rattle.normal.specs.Asked.{Links, CountedLinks};
 ghost use Rattle.normal.specs.Builds.{Stores, Chains, Cats, Stars, Negates, Fitted, CatFits, NegatedFits};
-ghost use Rattle.normal.specs.Nest.{join_node, joins_node, Turned, Lists, Nests};
-
-pub use term::Built;
+ghost use Rattle.normal.specs.Nest.{join_node, joins_node, Lists, Nests};
 
 use meaning::Join;
-use term::{ALT, AND, CAT, NOT, STAR, Term};
+pub use term::Built;
+use term::Term;
 
 // Stores one node.
 pub fn store(cells: &mut [u64], top: usize, node: Term) -> Built
@@ -43,28 +42,10 @@ fn joined(join: Join, first: usize, rest: usize) -> Term
 pub fn joins(node: Term, join: Join) -> bool
     ensures { result ≡ joins_node join node }
 {
-    let kind = term::kind_of(node);
     match join {
-        Join::Then => kind == CAT,
-        Join::Or => kind == ALT,
-        Join::Both => kind == AND,
-    }
-}
-
-// Turns the numbers in the cells from `top` to `end` around.
-fn turn_around(cells: &mut [u64], top: usize, end: usize)
-    requires top_le_end { top ≤ end }
-    requires end_in_bounds { end ≤ length cells.old }
-    ensures { Turned cells.old top end cells.new }
-{
-    let mut low = top;
-    let mut high = end;
-    while low + 1 < high {
-        high -= 1;
-        let number = cells[low];
-        cells[low] = cells[high];
-        cells[high] = number;
-        low += 1;
+        Join::Then => matches!(node, Term::Cat(_, _)),
+        Join::Or => matches!(node, Term::Alt(_, _)),
+        Join::Both => matches!(node, Term::And(_, _)),
     }
 }
 
@@ -74,14 +55,12 @@ pub fn nest(cells: &mut [u64], top: usize, end: usize, tail: usize, join: Join) 
     requires { Lists cells.old top end tail }
     ensures { Nests join cells.old top end tail cells.new result }
 {
-    turn_around(cells, top, end);
-    let mut at = top;
+    cells[top..end].reverse();
     let mut root = tail;
-    while at < end {
+    for at in top..end {
         let first = cells[at] as usize;
-        let next = term::push(cells, at, joined(join, first, root));
+        term::push(cells, at, joined(join, first, root));
         root = at;
-        at = next;
     }
     Built { root, top: end }
 }
@@ -135,17 +114,11 @@ pub fn star(cells: &mut [u64], top: usize, a: usize) -> Built
     requires top_in_bounds { top < length cells.old }
     ensures { Stars cells.old top a cells.new result }
 {
-    let node = term::node_at(cells, a);
-    if term::is_nothing(node) {
-        return store(cells, top, Term::Empty);
+    match term::node_at(cells, a) {
+        Term::Nothing => store(cells, top, Term::Empty),
+        Term::Empty | Term::Star(_) => Built { root: a, top },
+        _ => store(cells, top, Term::Star(a)),
     }
-    if term::is_empty(node) {
-        return Built { root: a, top };
-    }
-    if term::kind_of(node) == STAR {
-        return Built { root: a, top };
-    }
-    store(cells, top, Term::Star(a))
 }
 
 // Not of a term: that of a Not is its inner term.
@@ -155,12 +128,8 @@ pub fn negated(cells: &mut [u64], top: usize, a: usize) -> Built
     requires top_in_bounds { top < length cells.old }
     ensures { Negates cells.old top a cells.new result }
 {
-    let node = term::node_at(cells, a);
-    if term::kind_of(node) == NOT {
-        return Built {
-            root: term::first_of(node),
-            top,
-        };
+    if let Term::Not(inner) = term::node_at(cells, a) {
+        return Built { root: inner, top };
     }
     store(cells, top, Term::Not(a))
 }

@@ -11,10 +11,7 @@ ghost use Rattle.pair.specs.Promises.{Numbered};
 pub fn state_of(q: usize) -> usize
     ensures { result ≡ state_of q }
 {
-    if 0 < q {
-        return q - 1;
-    }
-    0
+    q.saturating_sub(1)
 }
 
 // The number told for item `i`: 0 for the start that was met again, and one less than its place for items behind it.
@@ -22,12 +19,9 @@ pub fn number_told(cells: &[u64], n: usize, count: usize, i: usize) -> usize
     requires { Numbered cells.now n count i }
     ensures { result ≡ number_told (items_of cells.now n count) i }
 {
-    let back = vector::find(cells, count, 1, vector::load(cells, 0));
-    if back < i {
-        return i - 1;
+    match vector::find(cells, count, 1, vector::load(cells, 0)) {
+        Some(back) if back < i => i - 1,
+        Some(back) if back == i => 0,
+        _ => i,
     }
-    if i < back {
-        return i;
-    }
-    0
 }

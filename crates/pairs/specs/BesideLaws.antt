@@ -1,6 +1,6 @@
 -- Laws of the walk beside a table, one for each place of the two loops that make it: a row, run by run, and the rows.
 -- Items keep to states that have a row of targets, since each target has one.
-use Rattle.std.specs.Prelude.{ℕ, zero, suc, ◌+◌, ◌*◌, ◌-◌, ◌<◌, ◌≤◌, ◌≡◌, refl, List, [], ◌∷◌, length, get_or}
+use Rattle.std.specs.Prelude.{ℕ, zero, suc, ◌+◌, ◌*◌, ◌-◌, ◌<◌, ◌≤◌, ◌≡◌, refl, List, [], ◌∷◌, length, get_or, Result, Ok, Err}
 use Rattle.std.proofs.Common.{sym, ap, subst, ◌∙◌, add-one, arith, length-append}
 use Rattle.std.proofs.Math.Decide.{dec_lt}
 use Rattle.std.proofs.Math.ListN.{get_or-append}
@@ -16,20 +16,21 @@ use Rattle.walk.specs.Walk.Step.{reached}
 use Rattle.walk.specs.StepLaws.{item, count, Came, came, reached_held, no_reach, Moved, step_moved}
 use Rattle.walk.specs.StepLaws.Came.{held, full, over, new}
 use Rattle.walk.specs.StepLaws.Moved.{again, fresh}
+use Rattle.table.specs.Promises.{RunTo}
 use Rattle.vector.specs.Layout.{items, sheets_at}
 use Rattle.vector.specs.Vectors.{vector_of}
 use Rattle.vector.specs.Memory.{numbers_at, item_of, items_of, held_of}
 use Rattle.vector.specs.Promises.{Within, ReadsShort}
 use Rattle.vector.specs.MemoryLaws.{items_length, items_at}
-use Rattle.steps.specs.declared.Stepped.{Stepped}
-use Rattle.steps.specs.declared.Stepped.TheVariants.{Reached, Stopped}
+use Rattle.steps.specs.declared.Extent.{Extent}
+use Rattle.steps.specs.declared.Reached.{Reached}
 use Rattle.steps.specs.Step.{way_of, Ready, Went, Comes, Steps, first_item}
 use Rattle.steps.specs.WayLaws.{step_way}
 use Rattle.steps.specs.CallLaws.{kept_short}
 use Rattle.steps.specs.RowLaws.{Along, along_first, along_end, along_stop, item_after, run_on, Rowed, rowed_first, rowed_end, rowed_stop, rowed_next}
 use Rattle.verdict.specs.Compare.{state_of, number_told}
 use Rattle.verdict.specs.NumberLaws.{told_after}
-use Rattle.pairs.specs.Promises.{by_targets, HasRow, Closed, Beside, RunTo, Walks, Ends}
+use Rattle.pairs.specs.Promises.{by_targets, HasRow, Closed, Beside, Walks, Ends}
 
 -- ---- items keep to states that have a row
 
@@ -78,23 +79,6 @@ beside_first targets v s n top m j some went = record {
       held_sheets targets s n top m
       (λ k l.
       rw (first_sheet (by_targets targets) v (came (by_targets targets) 0 nothing_held (first_item v)) (held_of s n top m) j went.goes k l) some);
-}
-
--- ---- a run of one target
-
-pub run_first : (targets : List ℕ) (from end : ℕ) → from < end → RunTo targets from end (from + 1)
-run_first targets from end h = record {
-  onward = omega arith;
-  within = omega arith;
-  alike = λ d k l. let e : d ≡ from = omega arith in ap (λ (i : ℕ). get_or targets i 0) e;
-}
-
-pub run_more : (targets : List ℕ) (from end i : ℕ) → i < end → RunTo targets from end i → get_or targets i 0 ≡ get_or targets from 0 → RunTo targets from end (i + 1)
-run_more targets from end i h r e = record {
-  onward = omega (arith, r.onward);
-  within = omega arith;
-  alike = λ d k l.
-      elim (dec_lt d i) [ yes m ↦ r.alike d k m | no m ↦ let f : d ≡ i = omega arith in ap (λ (j : ℕ). get_or targets j 0) f ∙ e ];
 }
 
 -- ---- a row, run by run
@@ -163,7 +147,7 @@ module _ (s₀ : List ℕ) (n top₀ count₀ i : ℕ) (targets : List ℕ) (pla
 
     -- ---- the step, and what it came to
 
-    module _ (to : ℕ) (read : to ≡ get_or targets (base + c) 0 + 1) (s' : List ℕ) (x : Stepped)
+    module _ (to : ℕ) (read : to ≡ get_or targets (base + c) 0 + 1) (s' : List ℕ) (x : Result Reached Refusal)
         (made : Steps s n count₁ items s' (step (way_of to items place (Pairs place)) i (held_of s n top count₁) c) x) where
       -- the code's step is the walk's
       as_way : step (way_of to items place (Pairs place)) i (held_of s n top count₁) c ≡ step (by_targets targets) i (held_of s n top count₁) c
@@ -172,14 +156,22 @@ module _ (s₀ : List ℕ) (n top₀ count₀ i : ℕ) (targets : List ℕ) (pla
           (read ∙ add-one (get_or targets (base + c) 0) ∙ ap (λ (b : ℕ). suc (get_or targets (b + c) 0)) (turn.based ∙ ap (λ (y : Item). state_of y.sheet * bytes) (sym here)))
           refl turn.placed refl refl
 
-      pub turn_stops : (r : Refusal) → x ≡ Stopped r → Ends n targets s' (row (by_targets targets) i bytes 0 (held_of s₀ n top₀ count₀)) x
+      pub turn_stops : (r : Refusal) → x ≡ Err r → Ends n targets s' (row (by_targets targets) i bytes 0 (held_of s₀ n top₀ count₀)) (Err r)
       turn_stops r e =
-          subst (Ends n targets s' (row (by_targets targets) i bytes 0 (held_of s₀ n top₀ count₀))) (sym e)
-          (along_stop (by_targets targets) i c (held_of s n top count₁) turn.numbers (row (by_targets targets) i bytes 0 (held_of s₀ n top₀ count₀))
+          along_stop (by_targets targets) i c (held_of s n top count₁) turn.numbers (row (by_targets targets) i bytes 0 (held_of s₀ n top₀ count₀))
           r turn.along small
-          (sym as_way ∙ subst (Comes s' n count₁ items (step (way_of to items place (Pairs place)) i (held_of s n top count₁) c)) e made.comes))
+          (sym as_way ∙ subst (Comes s' n count₁ items (step (way_of to items place (Pairs place)) i (held_of s n top count₁) c)) e made.comes)
 
-      module _ (top' count' j : ℕ) (e : x ≡ Reached top' count' j) where
+      module _ (y : Reached) (e : x ≡ Ok y) where
+        abbrev top' : ℕ
+        top' = y.held.top
+
+        abbrev count' : ℕ
+        count' = y.held.count
+
+        abbrev j : ℕ
+        j = y.number
+
         went : Went s' n count₁ items top' count' j (step (way_of to items place (Pairs place)) i (held_of s n top count₁) c)
         went = subst (Comes s' n count₁ items (step (way_of to items place (Pairs place)) i (held_of s n top count₁) c)) e made.comes
 
@@ -264,17 +256,16 @@ module _ (s₀ : List ℕ) (n top₀ count₀ : ℕ) (targets : List ℕ) (s : L
     beside = rounds.beside;
   }
 
-  module _ (inside : i < count₁) (s' : List ℕ) (x : Stepped)
+  module _ (inside : i < count₁) (s' : List ℕ) (x : Result Extent Refusal)
       (walks : Ends n targets s' (row (by_targets targets) i bytes 0 (held_of s n top count₁)) x) where
-    pub rounds_stop : (r : Refusal) → x ≡ Stopped r → Ends n targets s' (rows (by_targets targets) items 0 (held_of s₀ n top₀ count₀)) x
+    pub rounds_stop : (r : Refusal) → x ≡ Err r → Ends n targets s' (rows (by_targets targets) items 0 (held_of s₀ n top₀ count₀)) (Err r)
     rounds_stop r e =
-        subst (Ends n targets s' (rows (by_targets targets) items 0 (held_of s₀ n top₀ count₀))) (sym e)
-        (rowed_stop (by_targets targets) i (held_of s n top count₁) rounds.numbers (rows (by_targets targets) items 0 (held_of s₀ n top₀ count₀))
+        rowed_stop (by_targets targets) i (held_of s n top count₁) rounds.numbers (rows (by_targets targets) items 0 (held_of s₀ n top₀ count₀))
         rounds.rowed (omega (arith, items_length s n count₁)) (omega (arith, rounds.beside.few)) r
-        (subst (Ends n targets s' (row (by_targets targets) i bytes 0 (held_of s n top count₁))) e walks))
+        (subst (Ends n targets s' (row (by_targets targets) i bytes 0 (held_of s n top count₁))) e walks)
 
-    pub rounds_next : length s' ≡ length s → (top' count' j : ℕ) → x ≡ Reached top' count' j → Rounds s₀ n top₀ count₀ targets s' top' count' (i + 1)
-    rounds_next kept top' count' j e =
+    pub rounds_next : length s' ≡ length s → (y : Extent) → x ≡ Ok y → Rounds s₀ n top₀ count₀ targets s' y.top y.count (i + 1)
+    rounds_next kept y e =
         let w = subst (Ends n targets s' (row (by_targets targets) i bytes 0 (held_of s n top count₁))) e walks in
         record {
           same_length = kept ∙ rounds.same_length;
@@ -283,5 +274,5 @@ module _ (s₀ : List ℕ) (n top₀ count₀ : ℕ) (targets : List ℕ) (s : L
           rowed =
               rowed_next (by_targets targets) i (held_of s n top count₁) rounds.numbers (rows (by_targets targets) items 0 (held_of s₀ n top₀ count₀))
               rounds.rowed (omega (arith, items_length s n count₁)) (omega (arith, rounds.beside.few))
-              (held_of s' n top' count') w.numbers w.goes;
+              (held_of s' n y.top y.count) w.numbers w.goes;
         }

@@ -1,13 +1,13 @@
 -- What the code that walks pairs asks and tells: one record a contract, fields by name.
 -- The walk is given a table's targets, cut to the table's states.
-use Rattle.std.specs.Prelude.{ℕ, ◌+◌, ◌*◌, ◌<◌, ◌≤◌, ◌≡◌, List, [], length, get_or}
+use Rattle.std.specs.Prelude.{ℕ, ◌+◌, ◌*◌, ◌<◌, ◌≤◌, ◌≡◌, List, [], length, get_or, Result, Ok, Err}
+use Rattle.number.specs.declared.Refusal.{Refusal}
 use Rattle.number.specs.Limits.{bytes, pool}
 use Rattle.walk.specs.Walk.{Way, Walked}
 use Rattle.walk.specs.Walk.Walked.{halted, walked}
 use Rattle.vector.specs.Layout.{items, sheets_at}
 use Rattle.vector.specs.Memory.{held_of, Kept}
-use Rattle.steps.specs.declared.Stepped.{Stepped}
-use Rattle.steps.specs.declared.Stepped.TheVariants.{Reached, Stopped}
+use Rattle.steps.specs.declared.Extent.{Extent}
 use Rattle.verdict.specs.Compare.{state_of, beside}
 
 -- beside these targets: `beside` looks at nothing else of a table
@@ -28,12 +28,6 @@ pub record Beside (s : List ℕ) (n top count : ℕ) (targets : List ℕ) : Type
   pub few : count ≤ items
   pub sheets : (k : ℕ) → k < count → HasRow targets (state_of (get_or s (sheets_at + k) 0))
 
--- a run of one target starts at `from`; `r` is where it ends, or `end`
-pub record RunTo (targets : List ℕ) (from end r : ℕ) : Type 0 where
-  pub onward : from < r
-  pub within : r ≤ end
-  pub alike : (d : ℕ) → from ≤ d → d < r → get_or targets d 0 ≡ get_or targets from 0
-
 -- walk came to w, and what it holds then is what the work area holds
 pub record Walks (n : ℕ) (targets s : List ℕ) (top count : ℕ) (w : Walked) : Type 0 where
   pub numbers : List ℕ
@@ -41,6 +35,6 @@ pub record Walks (n : ℕ) (targets s : List ℕ) (top count : ℕ) (w : Walked)
   pub beside : Beside s n top count targets
 
 -- the answer is walk's, for a row or for more
-abbrev pub Ends : ℕ → List ℕ → List ℕ → Walked → Stepped → Type 0
-Ends n targets s w (Reached top count j) = Walks n targets s top count w
-Ends n targets s w (Stopped r) = w ≡ halted r
+abbrev pub Ends : ℕ → List ℕ → List ℕ → Walked → Result Extent Refusal → Type 0
+Ends n targets s w (Ok held) = Walks n targets s held.top held.count w
+Ends n targets s w (Err r) = w ≡ halted r

@@ -8,104 +8,81 @@ ghost use Rattle.walk.specs.Walk.{row, rows, walk_from};
 ghost use Rattle.pool.specs.Index.{Indexed};
 ghost use Rattle.vector.specs.Layout.{items, work_length};
 ghost use Rattle.vector.specs.Memory.{held_of};
-ghost use Rattle.steps.specs.Step.{Follows};
+ghost use Rattle.steps.specs.Step.{Indexes};
 ghost use Rattle.start.specs.Start.{rules_in, Opened};
-ghost use Rattle.pairs.specs.Promises.{by_targets, HasRow, Closed, Beside, RunTo, Ends};
+ghost use Rattle.pairs.specs.Promises.{by_targets, HasRow, Closed, Beside, Ends};
 
 use number::Refusal;
 use number::limits::BYTES;
 use pool::HEADS;
-use steps::Stepped;
+use steps::Extent;
 use vector::layout::{ITEMS, SHEETS_AT};
-
-// How far the target at `from` goes on: the first place with another one, or `end`.
-fn run_end(targets: &[u8], from: usize, end: usize) -> usize
-    requires from_lt_end { from < end }
-    requires end_in_bounds { end ≤ length targets.now }
-    ensures { RunTo targets.now from end result }
-{
-    let to = targets[from];
-    let mut i = from + 1;
-    while i < end {
-        if targets[i] != to {
-            return i;
-        }
-        i += 1;
-    }
-    i
-}
 
 // The row of item `i`: one step for each run of bytes that no range tells apart and that lead the table to one state.
 fn walk_row(
     index: &mut [u16],
     cells: &mut [u64],
-    top: usize,
-    count: usize,
+    held: Extent,
     n: usize,
     i: usize,
     targets: &[u8],
-) -> Stepped
-    requires beside { Beside cells.old n top count targets.now }
+) -> Result<Extent, Refusal>
+    requires beside { Beside cells.old n held.top held.count targets.now }
     requires closed { Closed targets.now }
-    requires i_lt_count { i < count }
-    requires indexed { Indexed index.old cells.old top }
+    requires i_lt_count { i < held.count }
+    requires indexed { Indexed index.old cells.old held.top }
     ensures ends { Ends n targets.now cells.new
-        (row (by_targets targets.now) i bytes 0 (held_of cells.old n top count)) result }
-    ensures follows { Follows index.new cells.new result }
+        (row (by_targets targets.now) i bytes 0 (held_of cells.old n held.top held.count)) result }
+    ensures follows { Indexes index.new cells.new result }
 {
-    let place = pair::number_told(cells, n, count, i);
+    let place = pair::number_told(cells, n, held.count, i);
     let base = pair::state_of(cells[SHEETS_AT + i] as usize) * BYTES;
-    let mut next = top;
-    let mut held = count;
+    let mut next = held;
     let mut c: usize = 0;
+    // Kept as a `while`, since a turn goes on by a whole run of bytes.
     while c < BYTES {
         let at = base + c;
         let to = targets[at] as usize + 1;
         let full = Refusal::Pairs(place);
-        let went = steps::step(index, cells, next, held, n, i, place, c, to, ITEMS, full);
-        let Stepped::Reached(above, more, _) = went else {
-            return went;
-        };
+        let went = steps::step(index, cells, next, n, i, place, c, to, ITEMS, full)?;
+        next = went.held;
         let edge = vector::edge_of(cells, vector::load(cells, i), n, c);
-        c = run_end(targets, at, base + edge) - base;
-        next = above;
-        held = more;
+        c = table::run_end(targets, at, base + edge) - base;
     }
-    Stepped::Reached(next, held, i)
+    Ok(next)
 }
 
 // The rows of all items, those found on the way too.
 fn walk_rows(
     index: &mut [u16],
     cells: &mut [u64],
-    top: usize,
-    count: usize,
+    held: Extent,
     n: usize,
     targets: &[u8],
-) -> Stepped
-    requires beside { Beside cells.old n top count targets.now }
+) -> Result<Extent, Refusal>
+    requires beside { Beside cells.old n held.top held.count targets.now }
     requires closed { Closed targets.now }
-    requires indexed { Indexed index.old cells.old top }
+    requires indexed { Indexed index.old cells.old held.top }
     ensures { Ends n targets.now cells.new
-        (rows (by_targets targets.now) items 0 (held_of cells.old n top count)) result }
+        (rows (by_targets targets.now) items 0 (held_of cells.old n held.top held.count)) result }
 {
-    let mut next = top;
-    let mut held = count;
+    let mut next = held;
     let mut i: usize = 0;
-    while i < held {
-        let went = walk_row(index, cells, next, held, n, i, targets);
-        let Stepped::Reached(above, more, _) = went else {
-            return went;
-        };
-        next = above;
-        held = more;
+    // Kept as a `while`: a row adds items, and the end of a range would stand before the first.
+    while i < next.count {
+        next = walk_row(index, cells, next, n, i, targets)?;
         i += 1;
     }
-    Stepped::Reached(next, held, i)
+    Ok(next)
 }
 
 // The whole walk of a book's `n` rules beside a table's targets.
-pub fn walk_from<'a>(book: &'a [u8], n: usize, cells: &mut [u64], targets: &'a [u8]) -> Stepped
+pub fn walk_from<'a>(
+    book: &'a [u8],
+    n: usize,
+    cells: &mut [u64],
+    targets: &'a [u8],
+) -> Result<Extent, Refusal>
     requires opened { Opened book.now n }
     requires work_length_in_bounds { work_length ≤ length cells.old }
     requires cells_len_bound { length cells.old ≤ work_cells }
@@ -115,13 +92,9 @@ pub fn walk_from<'a>(book: &'a [u8], n: usize, cells: &mut [u64], targets: &'a [
         (walk_from (by_targets targets.now) (rules_in book.now)) result }
 {
     let mut index = [0u16; HEADS];
-    let first = start::first_vector(book, n, &mut index, cells);
-    if first.long {
-        return Stepped::Stopped(Refusal::Long(0));
-    }
-    let begun = steps::hold_first(cells, first.top, n, first.vector);
-    let Stepped::Reached(top, count, _) = begun else {
-        return begun;
+    let Some(first) = start::first_vector(book, n, &mut index, cells) else {
+        return Err(Refusal::Long(0));
     };
-    walk_rows(&mut index, cells, top, count, n, targets)
+    let begun = steps::hold_first(cells, first.top, n, first.vector)?;
+    walk_rows(&mut index, cells, begun.held, n, targets)
 }

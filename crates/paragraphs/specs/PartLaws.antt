@@ -2,10 +2,12 @@
 -- Line and start are those that the code found for the bytes before the place.
 use Rattle.std.specs.Prelude.{ℕ, ◌+◌, ◌-◌, ◌≤◌, ◌≡◌, refl, List, [], ◌++◌, eqb, length, take, drop}
 use Rattle.std.proofs.Common.{arith, sym, ap, ◌∙◌}
+use Rattle.number.specs.declared.Refusal.{Refusal}
+use Rattle.number.specs.declared.Refusal.TheVariants.{Short, Number, Range, Stack, Tail, Long, Pool, States, Runs, Loaded, Room, Pairs, Input, Typed, Padded}
 use Rattle.number.specs.Lists.{Writes, writes_none}
 use Rattle.meaning.specs.Re.{Text}
 use Rattle.advised.specs.Advice.{newlines, line_at, last_start, start_at, column_at, shown_line, mark_line, could_stand, tested_line}
-use Rattle.advised.specs.Advice.{place_words, fault_words, too_much, over_file, in_bytes, typed_advice, range_advice, unread}
+use Rattle.advised.specs.Advice.{place_words, fault_words, too_much, over_file, in_bytes, typed_advice, range_advice, unread, advice_on}
 use Rattle.phrases.specs.Promises.{SpotOf}
 use Rattle.phrases.specs.Left.{Left, left_all, left_as, left_room, left_step}
 use Rattle.phrases.specs.WriteLaws.{writes_as}
@@ -100,3 +102,21 @@ unread_all s at h = record { room = h; same = refl; ends = λ u end x. x }
 -- refusals that typing never answers, and places outside the text
 pub nothing_told : {w : List ℕ} (s : List ℕ) → w ≡ [] → Writes w s s 0 0
 nothing_told s e = writes_as (sym e) (writes_none s 0)
+
+pub other_told : (text : Text) (r : Refusal) → ((p : ℕ) → r ≡ Typed p → ⊥) → ((p : ℕ) → r ≡ Range p → ⊥) → advice_on text r ≡ []
+unfolding advice_on
+other_told text (Typed p) h g = absurd (h p refl)
+other_told text (Range p) h g = absurd (g p refl)
+other_told text Input h g = refl
+other_told text (Short p) h g = refl
+other_told text (Number p) h g = refl
+other_told text (Padded p) h g = refl
+other_told text (Stack p) h g = refl
+other_told text (Tail p) h g = refl
+other_told text (Long p) h g = refl
+other_told text (Pool p) h g = refl
+other_told text (States p) h g = refl
+other_told text (Runs p) h g = refl
+other_told text Loaded h g = refl
+other_told text Room h g = refl
+other_told text (Pairs p) h g = refl

@@ -1,8 +1,7 @@
 -- How long advice gets: it fits into advice_room for every text that a file of rules may be.
 -- A line has at most as many bytes as the text, the mark as many spaces; a run takes sixteen bytes at most, and there is one for each byte at most.
-use Rattle.std.specs.Prelude.{ℕ, zero, suc, ◌+◌, ◌*◌, ◌-◌, ◌^◌, ◌≤◌, ◌<◌, ◌≡◌, refl, Bool, true, false, cond, ◌&&◌, List, [], ◌∷◌, ◌++◌, eqb, length, take, drop, replicate}
+use Rattle.std.specs.Prelude.{ℕ, zero, suc, ◌+◌, ◌*◌, ◌-◌, ◌^◌, ◌≤◌, ◌<◌, ◌≡◌, refl, Bool, true, false, cond, ◌&&◌, List, [], ◌∷◌, ◌++◌, eqb, length, take, drop}
 use Rattle.std.proofs.Common.{arith, length-append, length-drop, length-take-le}
-use Rattle.std.proofs.lemmas.List.{length-replicate}
 use Rattle.number.specs.Limits.{rules, kinds, nodes, bytes, rules_file}
 use Rattle.number.specs.Branch.{by_cond}
 use Rattle.meaning.specs.Re.{Text}
@@ -12,6 +11,7 @@ use Rattle.number.specs.Quoted.{quoted}
 use Rattle.advised.specs.Advice.{newline, space, newlines, line_at, start_at, column_at, printed, shown, shown_line, mark_line, could_stand}
 use Rattle.advised.specs.Advice.{kept, Run, neighbours, joined, runs, byte_name, run_name, run_names, tested_line}
 use Rattle.advised.specs.Advice.{phrase, place_words, fault_words, over_rules, over_kinds, over_nodes, in_all, too_much, over_file, in_bytes, typed_advice, range_advice, unread, advice_room}
+use Rattle.phrases.specs.WriteLaws.{mark_length}
 
 -- ---- lines
 
@@ -37,10 +37,6 @@ shown_most (c ∷ text) = by_test (eqb c newline) refl (shown_most text)
 shown_line_most : (text : Text) (k : ℕ) → length (shown_line (drop k text)) ≤ length text + 1
 shown_line_most text k =
     omega (arith, length-append (shown (drop k text)) (newline ∷ []), shown_most (drop k text), length-drop k text)
-
-mark_most : (n : ℕ) → length (mark_line n) ≡ n + 2
-unfolding mark_line
-mark_most n = omega (arith, length-append (replicate n space) (94 ∷ newline ∷ []), length-replicate n space)
 
 -- ---- runs
 
@@ -154,7 +150,7 @@ typed_room text p h g =
       place_most (line_at text p) (column_at text p) (omega (arith, line_most text p h g)) (omega arith),
       fault_most (eqb p (length text)),
       shown_line_most text (start_at text p),
-      mark_most (p - start_at text p),
+      mark_length (p - start_at text p),
       tested_most (could_stand (take p text)),
     )
 

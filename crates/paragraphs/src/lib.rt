@@ -64,33 +64,9 @@ pub fn put_advice(text: &[u8], r: Refusal, out: &mut [u8]) -> usize
     ensures { Writes (advice_on text.now r) out.old out.new 0 result }
 {
     match r {
-        Refusal::Typed(p) => {
-            if text.len() < p {
-                return 0;
-            }
-            put_typed(text, p, out, 0)
-        }
-        Refusal::Range(p) => {
-            if text.len() == 0 {
-                return put_text(b"words.rules has no rule.\n", out, 0);
-            }
-            if text.len() < p {
-                return 0;
-            }
-            put_range(text, p, out, 0)
-        }
-        Refusal::Input => 0,
-        Refusal::Short(_) => 0,
-        Refusal::Number(_) => 0,
-        Refusal::Padded(_) => 0,
-        Refusal::Stack(_) => 0,
-        Refusal::Tail(_) => 0,
-        Refusal::Long(_) => 0,
-        Refusal::Pool(_) => 0,
-        Refusal::States(_) => 0,
-        Refusal::Runs(_) => 0,
-        Refusal::Loaded => 0,
-        Refusal::Room => 0,
-        Refusal::Pairs(_) => 0,
+        Refusal::Typed(p) if p <= text.len() => put_typed(text, p, out, 0),
+        Refusal::Range(_) if text.is_empty() => put_text(b"words.rules has no rule.\n", out, 0),
+        Refusal::Range(p) if p <= text.len() => put_range(text, p, out, 0),
+        _ => 0,
     }
 }

@@ -1,33 +1,21 @@
--- What is left after each turn of the loops that write a text, a shown line and the spaces before the mark; then names and sentences.
+-- What is left after each turn of the loop that writes a shown line, and behind the spaces before the mark; then names and sentences.
 -- Each law is one turn or one end of a loop, or one way through a writer; specs/Left.antt says what it is to be left.
-use Rattle.std.specs.Prelude.{ℕ, suc, ◌+◌, ◌-◌, ◌≤◌, ◌<◌, ◌≡◌, refl, Bool, true, false, List, [], ◌∷◌, ◌++◌, length, drop, get_or, replicate}
-use Rattle.std.proofs.Common.{arith, sym, ap, subst, ◌∙◌, length-append, drop_of_length-le, eq-eqb, ne_eqb}
-use Rattle.number.specs.Lists.{drop_one, Writes}
+use Rattle.std.specs.Prelude.{ℕ, ◌+◌, ◌≤◌, ◌<◌, ◌≡◌, refl, Bool, true, false, List, [], ◌∷◌, ◌++◌, length, take, drop, get_or, replicate}
+use Rattle.std.proofs.Common.{arith, sym, ap, ◌∙◌, length-append, eq-eqb, ne_eqb}
+use Rattle.std.proofs.lemmas.List.{length-replicate}
+use Rattle.number.specs.Lists.{Writes}
 use Rattle.lines.specs.Digits.{decimal}
+use Rattle.lines.specs.LineLaws.{copied}
+pub use Rattle.lines.specs.LineLaws.{writes_as}
 use Rattle.number.specs.Quoted.{quoted}
 use Rattle.advised.specs.Advice.{newline, space, printed, shown, shown_line, mark_line, byte_name}
 use Rattle.advised.specs.Advice.{phrase, place_words, fault_words, over_rules, over_kinds, over_nodes, in_all, too_much}
 use Rattle.phrases.specs.SpotLaws.{shown_newline, shown_other, shown_end}
-use Rattle.phrases.specs.Left.{Left, left_all, left_as, left_byte, left_some, left_last, left_none}
+use Rattle.phrases.specs.Left.{Left, left_all, left_as, left_byte, left_step, left_last}
 
-pub writes_as : {v w s t : List ℕ} {at end : ℕ} → v ≡ w → Writes v s t at end → Writes w s t at end
-writes_as {v} {w} {s} {t} {at} {end} e a = subst (λ x. Writes x s t at end) e a
-
--- ---- a text
+-- ---- a line that is shown
 
 module _ (text : List ℕ) (i : ℕ) {whole s t : List ℕ} {at₀ at : ℕ} where
-  pub text_some : i < length text → Left whole (drop i text) s t at₀ at → at < length t
-  text_some h l = left_some (left_as (drop_one text i h) l)
-
-  pub text_more : {u : List ℕ} {mid : ℕ} → i < length text → Left whole (drop i text) s t at₀ at → Writes (get_or text i 0 ∷ []) t u at mid
-      → Left whole (drop (i + 1) text) s u at₀ mid
-  text_more h l a = left_byte (left_as (drop_one text i h) l) a
-
-  pub text_end : length text ≤ i → Left whole (drop i text) s t at₀ at → Writes whole s t at₀ at
-  text_end h l = left_none (left_as (drop_of_length-le text h) l)
-
-  -- ---- a line that is shown
-
   pub shown_some : Left whole (shown_line (drop i text)) s t at₀ at → at < length t
   shown_some l = omega (arith, l.room, length-append (shown (drop i text)) (newline ∷ []))
 
@@ -47,34 +35,23 @@ module _ (text : List ℕ) (i : ℕ) {whole s t : List ℕ} {at₀ at : ℕ} whe
 
 -- ---- the mark
 
-mark_step : (n i : ℕ) → i < n → mark_line (n - i) ≡ space ∷ mark_line (n - (i + 1))
+pub mark_length : (n : ℕ) → length (mark_line n) ≡ n + 2
 unfolding mark_line
-mark_step n i h =
-    let e : n - i ≡ suc (n - (i + 1)) = omega arith in
-    ap (λ k. replicate k space ++ (94 ∷ newline ∷ [])) e
+mark_length n = omega (arith, length-append (replicate n space) (94 ∷ newline ∷ []), length-replicate n space)
 
-mark_end : (n i : ℕ) → n ≤ i → mark_line (n - i) ≡ 94 ∷ newline ∷ []
+pub mark_all : (n : ℕ) (s : List ℕ) (at : ℕ) → at + length (mark_line n) ≤ length s
+    → Left (mark_line n) (replicate n space ++ (94 ∷ newline ∷ [])) s s at at
 unfolding mark_line
-mark_end n i h =
-    let e : n - i ≡ 0 = omega arith in
-    ap (λ k. replicate k space ++ (94 ∷ newline ∷ [])) e
+mark_all n s at h = left_all (mark_line n) s at h
 
-pub mark_all : (n : ℕ) (s : List ℕ) (at : ℕ) → at + length (mark_line n) ≤ length s → Left (mark_line n) (mark_line (n - 0)) s s at at
-mark_all n s at h = left_as (ap mark_line (none n)) (left_all (mark_line n) s at h)
-  where
-    none : (n : ℕ) → n ≡ n - 0
-    none n = omega arith
-
-module _ (n i : ℕ) {whole s t : List ℕ} {at₀ at : ℕ} where
-  pub mark_some : i < n → Left whole (mark_line (n - i)) s t at₀ at → at < length t
-  mark_some h l = left_some (left_as (mark_step n i h) l)
-
-  pub mark_more : {u : List ℕ} {mid : ℕ} → i < n → Left whole (mark_line (n - i)) s t at₀ at → Writes (space ∷ []) t u at mid
-      → Left whole (mark_line (n - (i + 1))) s u at₀ mid
-  mark_more h l a = left_byte (left_as (mark_step n i h) l) a
-
-  pub mark_last : n ≤ i → Left whole (mark_line (n - i)) s t at₀ at → Left whole (94 ∷ newline ∷ []) s t at₀ at
-  mark_last h l = left_as (mark_end n i h) l
+-- spaces that were filled in are a run of them
+pub mark_spaces : (n k m : ℕ) (now : List ℕ) {whole s t : List ℕ} {at₀ at : ℕ} → Left whole (replicate n space ++ (94 ∷ newline ∷ [])) s t at₀ at
+    → k ≡ n → now ≡ replicate m space → m ≡ n
+    → Left whole (94 ∷ newline ∷ []) s (take at t ++ (now ++ drop k (drop at t))) at₀ (at + n)
+mark_spaces n k m now {t = t} {at = at} l e f g =
+    let many : length (replicate n space) ≡ n = length-replicate n space in
+    left_step (replicate n space) (94 ∷ newline ∷ []) l
+    (rw many at (copied (replicate n space) now t at k (e ∙ sym many) (f ∙ ap (λ x. replicate x space) g)))
 
 -- ---- names of bytes
 

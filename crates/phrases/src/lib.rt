@@ -8,9 +8,8 @@ ghost use Rattle.advised.specs.Advice.{printed as printed_of, shown_line, mark_l
 ghost use Rattle.advised.specs.Advice.{phrase, place_words, fault_words, too_much};
 ghost use Rattle.phrases.specs.Promises.{SpotOf};
 
+pub use lines::{NEWLINE, put_text};
 use number::limits::{KINDS, NODES, RULES};
-
-pub const NEWLINE: u8 = 10;
 
 // A line of the text: its number, counted from 1, and the place where it starts.
 #[derive(Clone, Copy)]
@@ -19,51 +18,26 @@ pub struct Spot {
     pub start: usize,
 }
 
-// A whole text; a loop, so that a long one takes no stack.
-pub fn put_text(text: &[u8], out: &mut [u8], at: usize) -> usize
-    requires { at + length text.now ≤ length out.old }
-    ensures { Writes text.now out.old out.new at result }
-{
-    let mut end = at;
-    let mut i = 0;
-    while i < text.len() {
-        end = lines::put_byte(text[i], out, end);
-        i = i + 1;
-    }
-    end
-}
-
 // The line that is reached after these bytes.
 pub fn find_spot(before: &[u8]) -> Spot
     ensures { SpotOf before.now result.line result.start }
 {
     let mut line = 1;
     let mut start = 0;
-    let mut i = 0;
-    while i < before.len() {
-        if before[i] == NEWLINE {
-            line = line + 1;
+    for (i, c) in before.iter().enumerate() {
+        if *c == NEWLINE {
+            line += 1;
             start = i + 1;
         }
-        i = i + 1;
     }
-    Spot {
-        line: line,
-        start: start,
-    }
+    Spot { line, start }
 }
 
 // A byte that can be printed, or `?` for it.
 fn printed(c: u8) -> u8
     ensures { result ≡ printed_of c }
 {
-    if c < 32 {
-        return b'?';
-    }
-    if 126 < c {
-        return b'?';
-    }
-    c
+    if matches!(c, b' '..=b'~') { c } else { b'?' }
 }
 
 // The line that starts at a place, up to its newline or the text's end.
@@ -72,13 +46,11 @@ pub fn put_shown(text: &[u8], start: usize, out: &mut [u8], at: usize) -> usize
     ensures { Writes (shown_line (drop start text.now)) out.old out.new at result }
 {
     let mut end = at;
-    let mut i = start;
-    while i < text.len() {
+    for i in start..text.len() {
         if text[i] == NEWLINE {
             return lines::put_byte(NEWLINE, out, end);
         }
         end = lines::put_byte(printed(text[i]), out, end);
-        i = i + 1;
     }
     lines::put_byte(NEWLINE, out, end)
 }
@@ -88,12 +60,8 @@ pub fn put_mark(before: usize, out: &mut [u8], at: usize) -> usize
     requires { at + length (mark_line before) ≤ length out.old }
     ensures { Writes (mark_line before) out.old out.new at result }
 {
-    let mut end = at;
-    let mut i = 0;
-    while i < before {
-        end = lines::put_byte(b' ', out, end);
-        i = i + 1;
-    }
+    let end = at + before;
+    out[at..end].fill(b' ');
     let below = lines::put_byte(b'^', out, end);
     lines::put_byte(NEWLINE, out, below)
 }

@@ -1,7 +1,7 @@
 -- What the readers of a sheet promise: what each adds to lent memory, and that it answers as its definition of table's Sheet.
 -- One record a promise, so that a proof reads its parts by name; load itself promises what table's Promises say.
-use Rattle.std.specs.Prelude.{ℕ, ◌*◌, ◌≡◌, List}
-use Rattle.number.specs.declared.Taken.{Taken}
+use Rattle.std.specs.Prelude.{ℕ, ◌*◌, ◌≡◌, Result, List}
+use Rattle.number.specs.declared.Refusal.{Refusal}
 use Rattle.number.specs.Limits.{bytes}
 use Rattle.number.specs.Refused.{Answer}
 use Rattle.number.specs.Refused.Answer.{got, refused}
@@ -17,7 +17,7 @@ Laid (got row next) before at after = after ≡ written before at row
 Laid (refused r) before at after = Unit {0}
 
 -- the reader of a row's runs answers s, which it was given, and the place after them
-pub record LaysRow (x : Answer (List ℕ)) (s : ℕ) (t : List ℕ) (cell : ℕ) (t' : List ℕ) (r : Taken) : Type 0 where
+pub record LaysRow (x : Answer (List ℕ)) (s : ℕ) (t : List ℕ) (cell : ℕ) (t' : List ℕ) (r : Result (ℕ × ℕ) Refusal) : Type 0 where
   pub answer : taken r ≡ map_answer (λ (row : List ℕ). s) x
   pub cells : Laid x t cell t'
 
@@ -26,7 +26,7 @@ abbrev pub LaidRows : Answer Rows → ℕ → List ℕ → List ℕ → List ℕ
 LaidRows (got rows next) i l t l' t' = (l' ≡ written l i rows.labels) × (t' ≡ written t (i * bytes) rows.targets)
 LaidRows (refused r) i l t l' t' = Unit {0}
 
-pub record LaysRows (x : Answer Rows) (s i : ℕ) (l t l' t' : List ℕ) (r : Taken) : Type 0 where
+pub record LaysRows (x : Answer Rows) (s i : ℕ) (l t l' t' : List ℕ) (r : Result (ℕ × ℕ) Refusal) : Type 0 where
   pub answer : taken r ≡ map_answer (λ (rows : Rows). s) x
   pub cells : LaidRows x i l t l' t'
 
@@ -35,6 +35,6 @@ abbrev pub LaidTable : Answer Table → List ℕ → List ℕ → List ℕ → L
 LaidTable (got table next) l t l' t' = (l' ≡ written l 0 table.labels) × (t' ≡ written t 0 table.targets)
 LaidTable (refused r) l t l' t' = Unit {0}
 
-pub record LaysTable (x : Answer Table) (l t l' t' : List ℕ) (r : Taken) : Type 0 where
+pub record LaysTable (x : Answer Table) (l t l' t' : List ℕ) (r : Result (ℕ × ℕ) Refusal) : Type 0 where
   pub answer : taken r ≡ map_answer (λ (table : Table). table.count) x
   pub cells : LaidTable x l t l' t'

@@ -2,14 +2,13 @@
 -- Each way of the code is one law; what was read before stands in the law as the fields that were got.
 use Prim.Native.Nat.{ℕ, zero, suc, ◌+◌, ◌-◌, ◌*◌, ◌≤◌, ◌<◌}
 use Rattle.std.proofs.Common.{arith, sym, ap, ◌∙◌, length-append}
-use Rattle.std.specs.Prelude.{◌≡◌, refl, Bool, true, false, ltb, eqb, set}
+use Rattle.std.specs.Prelude.{◌≡◌, refl, Result, Bool, true, false, ltb, eqb, set}
 use mathlib.Core.List.{List, [], ◌∷◌, ◌++◌}
 use borrow.Author.Tests.{lt-ltb, le-ltb, eq-eqb, ne_eqb, ltb-false}
 use Rattle.std.proofs.Math.ListN.{length, replicate}
 use Rattle.std.proofs.lemmas.List.{length-replicate}
 use Rattle.number.specs.declared.Refusal.{Refusal}
 use Rattle.number.specs.declared.Refusal.TheVariants.{Runs}
-use Rattle.number.specs.declared.Taken.{Taken}
 use Rattle.number.specs.Limits.{rules, states, bytes}
 use Rattle.number.specs.Refused.{Answer}
 use Rattle.number.specs.Refused.Answer.{got, refused}
@@ -119,7 +118,7 @@ module _ (file : List ℕ) (s k sum last at : ℕ) where
             (onward_maps (more_runs file s j (sum + len) target at2) (λ (rest : List ℕ). replicate len target ++ rest)))
 
 -- what these leave in memory
-pub row_stopped : {x : Answer (List ℕ)} {s cell : ℕ} {t t' : List ℕ} {r : Taken} (q : Refusal) → x ≡ refused q → taken r ≡ refused q
+pub row_stopped : {x : Answer (List ℕ)} {s cell : ℕ} {t t' : List ℕ} {r : Result (ℕ × ℕ) Refusal} (q : Refusal) → x ≡ refused q → taken r ≡ refused q
     → LaysRow x s t cell t' r
 row_stopped {x} {s} {cell} {t} {t'} q e f =
     record {
@@ -127,7 +126,7 @@ row_stopped {x} {s} {cell} {t} {t'} q e f =
       cells = rw e tt;
     }
 
-pub row_end : {x : Answer (List ℕ)} {s cell next : ℕ} {t : List ℕ} {r : Taken} → x ≡ got [] next → taken r ≡ got s next
+pub row_end : {x : Answer (List ℕ)} {s cell next : ℕ} {t : List ℕ} {r : Result (ℕ × ℕ) Refusal} → x ≡ got [] next → taken r ≡ got s next
     → LaysRow x s t cell t r
 row_end {x} {s} {cell} {next} {t} e f =
     record {
@@ -135,7 +134,7 @@ row_end {x} {s} {cell} {next} {t} e f =
       cells = rw e (writes_none t cell).out;
     }
 
-pub row_more : {x : Answer (List ℕ)} (y : Answer (List ℕ)) {s cell next : ℕ} {t t1 t2 : List ℕ} (run : List ℕ) {r : Taken}
+pub row_more : {x : Answer (List ℕ)} (y : Answer (List ℕ)) {s cell next : ℕ} {t t1 t2 : List ℕ} (run : List ℕ) {r : Result (ℕ × ℕ) Refusal}
     → x ≡ map_answer (λ (rest : List ℕ). run ++ rest) y → cell ≤ length t → t1 ≡ written t cell run → next ≡ cell + length run
     → LaysRow y s t1 next t2 r → LaysRow x s t cell t2 r
 row_more (refused q) run e h f g l = row_stopped q e l.answer
@@ -151,13 +150,13 @@ pub record RowGot (x : Answer (List ℕ)) (t : List ℕ) (cell : ℕ) (t' : List
   pub is : x ≡ got row next
   pub cells : t' ≡ written t cell row
 
-pub row_got : {x : Answer (List ℕ)} {s cell n next : ℕ} {t t' : List ℕ} {r : Taken} → LaysRow x s t cell t' r → taken r ≡ got n next
+pub row_got : {x : Answer (List ℕ)} {s cell n next : ℕ} {t t' : List ℕ} {r : Result (ℕ × ℕ) Refusal} → LaysRow x s t cell t' r → taken r ≡ got n next
     → RowGot x t cell t' next
 row_got {x} {s} {n = n} {next = next} l e =
     let g = mapped_got x (λ (row : List ℕ). s) n next (sym l.answer ∙ e) in
     record { row = g.what; is = g.is; cells = rw g.is at l.cells }
 
-pub row_refused : {x : Answer (List ℕ)} {s cell : ℕ} {t t' : List ℕ} {r : Taken} {q : Refusal} → LaysRow x s t cell t' r
+pub row_refused : {x : Answer (List ℕ)} {s cell : ℕ} {t t' : List ℕ} {r : Result (ℕ × ℕ) Refusal} {q : Refusal} → LaysRow x s t cell t' r
     → taken r ≡ refused q → x ≡ refused q
 row_refused {x} {s} {q = q} l e = mapped_refused x (λ (row : List ℕ). s) q (sym l.answer ∙ e)
 
@@ -194,7 +193,7 @@ module _ (file : List ℕ) (s k at : ℕ) where
             (onward_maps (more_states file s j at3) (λ (rest : Rows). record { labels = label ∷ rest.labels; targets = row ++ rest.targets })))
 
 -- what these leave in memory
-pub rows_stopped : {x : Answer Rows} {s i : ℕ} {l t l' t' : List ℕ} {r : Taken} (q : Refusal) → x ≡ refused q → taken r ≡ refused q
+pub rows_stopped : {x : Answer Rows} {s i : ℕ} {l t l' t' : List ℕ} {r : Result (ℕ × ℕ) Refusal} (q : Refusal) → x ≡ refused q → taken r ≡ refused q
     → LaysRows x s i l t l' t' r
 rows_stopped q e f =
     record {
@@ -202,7 +201,7 @@ rows_stopped q e f =
       cells = rw e tt;
     }
 
-pub rows_end : {x : Answer Rows} {s i next : ℕ} {l t : List ℕ} {r : Taken} → x ≡ got (record { labels = []; targets = [] }) next
+pub rows_end : {x : Answer Rows} {s i next : ℕ} {l t : List ℕ} {r : Result (ℕ × ℕ) Refusal} → x ≡ got (record { labels = []; targets = [] }) next
     → taken r ≡ got s next → LaysRows x s i l t l t r
 rows_end {i = i} {l = l} {t = t} e f =
     record {
@@ -210,7 +209,7 @@ rows_end {i = i} {l = l} {t = t} e f =
       cells = rw e ((writes_none l i).out, (writes_none t (i * bytes)).out);
     }
 
-pub rows_more : {x : Answer Rows} (y : Answer Rows) {s i next : ℕ} {l t l1 t1 l2 t2 : List ℕ} (label : ℕ) (row : List ℕ) {r : Taken}
+pub rows_more : {x : Answer Rows} (y : Answer Rows) {s i next : ℕ} {l t l1 t1 l2 t2 : List ℕ} (label : ℕ) (row : List ℕ) {r : Result (ℕ × ℕ) Refusal}
     → x ≡ map_answer (λ (rest : Rows). record { labels = label ∷ rest.labels; targets = row ++ rest.targets }) y
     → i + 1 ≤ length l → i * bytes ≤ length t → l1 ≡ set l i label → t1 ≡ written t (i * bytes) row → length row ≡ bytes
     → next ≡ i + 1 → LaysRows y s next l1 t1 l2 t2 r → LaysRows x s i l t l2 t2 r
@@ -228,18 +227,18 @@ rows_more (got rest after) {i = i} {next = next} {l = l} {t = t} {l1 = l1} label
     }
 
 -- states that were got or refused, by what the code was answered
-pub rows_got : {x : Answer Rows} {s i n next : ℕ} {l t l' t' : List ℕ} {r : Taken} → LaysRows x s i l t l' t' r → taken r ≡ got n next
+pub rows_got : {x : Answer Rows} {s i n next : ℕ} {l t l' t' : List ℕ} {r : Result (ℕ × ℕ) Refusal} → LaysRows x s i l t l' t' r → taken r ≡ got n next
     → Got x (λ (rows : Rows). s) n next
 rows_got {x} {s} {n = n} {next = next} l e = mapped_got x (λ (rows : Rows). s) n next (sym l.answer ∙ e)
 
-pub rows_refused : {x : Answer Rows} {s i : ℕ} {l t l' t' : List ℕ} {r : Taken} {q : Refusal} → LaysRows x s i l t l' t' r
+pub rows_refused : {x : Answer Rows} {s i : ℕ} {l t l' t' : List ℕ} {r : Result (ℕ × ℕ) Refusal} {q : Refusal} → LaysRows x s i l t l' t' r
     → taken r ≡ refused q → x ≡ refused q
 rows_refused {x} {s} {q = q} l e = mapped_refused x (λ (rows : Rows). s) q (sym l.answer ∙ e)
 
 -- ---- the sheet
 
 -- what these leave in memory
-pub table_stopped : {x : Answer Table} {l t l' t' : List ℕ} {r : Taken} (q : Refusal) → x ≡ refused q → taken r ≡ refused q
+pub table_stopped : {x : Answer Table} {l t l' t' : List ℕ} {r : Result (ℕ × ℕ) Refusal} (q : Refusal) → x ≡ refused q → taken r ≡ refused q
     → LaysTable x l t l' t' r
 table_stopped q e f =
     record {
@@ -247,7 +246,7 @@ table_stopped q e f =
       cells = rw e tt;
     }
 
-pub table_got : {x : Answer Table} {y : Answer Rows} {s next : ℕ} {rows : Rows} {l t l' t' : List ℕ} {q r : Taken}
+pub table_got : {x : Answer Table} {y : Answer Rows} {s next : ℕ} {rows : Rows} {l t l' t' : List ℕ} {q r : Result (ℕ × ℕ) Refusal}
     → x ≡ got (record { count = s; labels = rows.labels; targets = rows.targets }) next
     → y ≡ got rows next → LaysRows y s 0 l t l' t' q → taken r ≡ got s next → LaysTable x l t l' t' r
 table_got e f m g =
@@ -267,7 +266,7 @@ pub record SheetGot (file l t l' t' : List ℕ) (count next : ℕ) : Type 0 wher
   pub labels : l' ≡ written l 0 table.labels
   pub targets : t' ≡ written t 0 table.targets
 
-pub sheet_read : (file : List ℕ) {l t l' t' : List ℕ} {n next : ℕ} {r : Taken} → Bytes file → LaysTable (read_sheet file) l t l' t' r
+pub sheet_read : (file : List ℕ) {l t l' t' : List ℕ} {n next : ℕ} {r : Result (ℕ × ℕ) Refusal} → Bytes file → LaysTable (read_sheet file) l t l' t' r
     → taken r ≡ got n next → SheetGot file l t l' t' n next
 sheet_read file {n = n} {next = next} all m e =
     let g = mapped_got (read_sheet file) (λ (t : Table). t.count) n next (sym m.answer ∙ e) in
@@ -284,6 +283,6 @@ sheet_read file {n = n} {next = next} all m e =
       targets = cells.1;
     }
 
-pub sheet_refused : (file : List ℕ) {l t l' t' : List ℕ} {r : Taken} {q : Refusal} → LaysTable (read_sheet file) l t l' t' r
+pub sheet_refused : (file : List ℕ) {l t l' t' : List ℕ} {r : Result (ℕ × ℕ) Refusal} {q : Refusal} → LaysTable (read_sheet file) l t l' t' r
     → taken r ≡ refused q → read_sheet file ≡ refused q
 sheet_refused file {q = q} m e = mapped_refused (read_sheet file) (λ (t : Table). t.count) q (sym m.answer ∙ e)

@@ -1,6 +1,6 @@
 -- Laws of one node's work: what its parts ask for, that each part's answer is the node's, and how many cells it takes.
 -- A node whose result fits takes at most three cells, and half of most_members more for each term that it takes.
-use Rattle.std.specs.Prelude.{ℕ, ◌+◌, ◌-◌, ◌*◌, ◌/◌, ◌<◌, ◌≤◌, ◌≡◌, refl, Bool, true, false, cond, ◌||◌, List, length}
+use Rattle.std.specs.Prelude.{ℕ, ◌+◌, ◌-◌, ◌*◌, ◌/◌, ◌≤◌, ◌≡◌, refl, Bool, true, false, cond, ◌||◌, List}
 use Rattle.std.proofs.Common.{arith, ◌∙◌}
 use Rattle.number.specs.Limits.{capital}
 use Rattle.meaning.specs.declared.Join.{Join}
@@ -14,14 +14,13 @@ use Rattle.meaning.specs.SizeLaws.{short_members}
 use Rattle.book.specs.declared.Node.{Node}
 use Rattle.book.specs.declared.Node.TheVariants.{Nothing, Empty, Range, Cat, Alt, Star, Either, And, Not}
 use Rattle.book.specs.Book.{takes}
-use Rattle.book.specs.Valid.{Within}
 use Rattle.term.specs.declared.Term.TheVariants.{Range as RangeNode}
 use Rattle.term.specs.Cells.{term}
 use Rattle.term.specs.Area.{pending, Room}
 use Rattle.term.specs.Nodes.{Pushed}
 use Rattle.term.specs.Counts.{Countable}
 use Rattle.term.specs.CellLaws.{grown_trans, grown_term, makes_more, makes_as, makes_after}
-use Rattle.normal.specs.declared.Built.{Built}
+use Rattle.term.specs.declared.Built.{Built}
 use Rattle.normal.specs.Asked.{members, most_members, Links}
 use Rattle.merged.specs.Asked.{merge_cells, Sides}
 use Rattle.merged.specs.Builds.{Merged}
@@ -80,12 +79,6 @@ merged_few k sorts {s} {top} {a} {b} x y =
     )
 
 module _ {n : Node} {s : List ℕ} {top a b : ℕ} (o : Operands n s top a b) where
-  pub node_within : (m : Node) → n ≡ m → Within o.version m
-  node_within m e = rw e at o.good
-
-  pub node_room_lem : top < length s
-  node_room_lem = omega (arith, o.room)
-
   -- a node of two terms finds both, in normal form and short
   items : (m : Node) → n ≡ m → 2 ≤ takes m → Item s top a × Item s top b
   items m e two = (o.below (rw e two), o.first (rw e (omega arith)))
@@ -115,10 +108,6 @@ module _ {n : Node} {s : List ℕ} {top a b : ℕ} (o : Operands n s top a b) wh
         room = omega (arith, o.room, short_members k (term s a) x.0.is_short, short_members k (term s b) x.1.is_short);
       }
 
-  -- a node of one term finds it
-  pub one_asks : (m : Node) → n ≡ m → 1 ≤ takes m → b < top
-  one_asks m e one = (o.first (rw e one)).low
-
   -- the cells that any node takes
   pub node_few : node_cells n (term s a) (term s b) ≤ node_room
   node_few = go n o
@@ -138,11 +127,6 @@ module _ {n : Node} {s : List ℕ} {top a b : ℕ} (o : Operands n s top a b) wh
   pub node_counts : Room s top (node_room + pending) → {s' : List ℕ} {made : Built} → NodeBuilt n s top a b s' made
       → Countable s' made.top made.root
   node_counts room m = made_counts m (omega (arith, node_few))
-
--- another name of the node
-pub node_as : {n : Node} (m : Node) {s : List ℕ} {top : ℕ} (a b : ℕ) {s' : List ℕ} {r : Built} → n ≡ m → NodeBuilt m s top a b s' r
-    → NodeBuilt n s top a b s' r
-node_as m a b e x = rw e x
 
 -- ---- the cells of a node whose result fits
 

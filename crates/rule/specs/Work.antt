@@ -1,6 +1,6 @@
 -- What the code that works off a rule's nodes asks and answers: the rule, the stack of cells, and how many cells the rest may use.
 -- The contracts of this crate are stated with these.
-use Rattle.std.specs.Prelude.{ℕ, ◌+◌, ◌-◌, ◌*◌, ◌/◌, ◌<◌, ◌≤◌, ◌≡◌, true, List, [], ◌++◌, length, get_or, drop}
+use Rattle.std.specs.Prelude.{ℕ, ◌+◌, ◌-◌, ◌*◌, ◌/◌, ◌<◌, ◌≤◌, ◌≡◌, true, List, [], ◌++◌, length, get_or, drop, Option}
 use Rattle.number.specs.Limits.{nodes, work_cells, scratch}
 use Rattle.number.specs.Refused.{Answer}
 use Rattle.number.specs.Refused.Answer.{got, refused}
@@ -19,8 +19,7 @@ use Rattle.book.specs.Places.{rule_of}
 use Rattle.term.specs.Cells.{term, Sound}
 use Rattle.term.specs.Area.{pending, Room, Makes}
 use Rattle.term.specs.Places.{terms_at}
-use Rattle.normal.specs.declared.Built.{Built}
-use Rattle.normal.specs.declared.Made.{Made}
+use Rattle.term.specs.declared.Built.{Built}
 use Rattle.normal.specs.Asked.{most_members, cat_cells}
 use Rattle.merged.specs.Asked.{merge_cells}
 use Rattle.normal.specs.Made.{MadeBy}
@@ -47,7 +46,7 @@ rule_in file i = rule_of_read (read_book file) i
 abbrev pub rule_cells : ℕ
 rule_cells = scratch - pending
 
-abbrev pub RuleMade : List ℕ → ℕ → List ℕ → ℕ → List ℕ → Made → Type 0
+abbrev pub RuleMade : List ℕ → ℕ → List ℕ → ℕ → List ℕ → Option Built → Type 0
 RuleMade file rule s top s' r = MadeBy s top s' r (normal_fit (rule_in file rule)) rule_cells
 
 -- ---- one node
@@ -91,7 +90,7 @@ EitherBuilt s top x s' r = Makes s top s' r.root r.top (alt (large x) (small x))
 abbrev pub NodeBuilt : Node → List ℕ → ℕ → ℕ → ℕ → List ℕ → Built → Type 0
 NodeBuilt n s top a b s' r = Makes s top s' r.root r.top (node_term n (term s a) (term s b)) (node_cells n (term s a) (term s b))
 
-abbrev pub NodeMade : Node → List ℕ → ℕ → ℕ → ℕ → List ℕ → Made → Type 0
+abbrev pub NodeMade : Node → List ℕ → ℕ → ℕ → ℕ → List ℕ → Option Built → Type 0
 NodeMade n s top a b s' r = MadeBy s top s' r (made n (term s a) (term s b)) (node_cells n (term s a) (term s b))
 
 -- ---- the nodes that are left
@@ -130,5 +129,5 @@ pub record Working (file : List ℕ) (v at left : ℕ) (s : List ℕ) (top : ℕ
   pub small : (i : ℕ) → i < nodes + 2 → get_or st i 0 < work_cells
   pub items : (i : ℕ) → i < h → Item s top (get_or st (i + 2) 0)
 
-abbrev pub Worked : List ℕ → ℕ → ℕ → ℕ → List ℕ → ℕ → List ℕ → ℕ → List ℕ → Made → Type 0
+abbrev pub Worked : List ℕ → ℕ → ℕ → ℕ → List ℕ → ℕ → List ℕ → ℕ → List ℕ → Option Built → Type 0
 Worked file v at left s top st h s' r = MadeBy s top s' r (run_fit (nodes_left file v at left h) (stack_of s st h)) (rest_cells left h)

@@ -3,7 +3,7 @@
 use Prim.Native.Nat.{ℕ, zero, suc, ◌+◌, ◌-◌, ◌<◌, ◌≤◌}
 use native.Mathlib.Omega.{arith}
 use Rattle.std.proofs.Math.Decide.{dec_lt, ℕ_discrete}
-use Rattle.std.specs.Prelude.{◌≡◌, refl, List, [], ◌∷◌, ◌++◌, length, get_or, drop, set, replicate}
+use Rattle.std.specs.Prelude.{◌≡◌, refl, List, [], ◌∷◌, ◌++◌, length, get_or, drop, set, replicate, Option, Some, None, Result, Ok, Err, IsOk, IsSome}
 use Rattle.std.proofs.Common.{sym, ◌∙◌, length-set, get_or-drop, get_or-set_same, get_or-set_other}
 use Rattle.std.proofs.Math.Path.{ap}
 use Rattle.std.proofs.lemmas.List.{length-replicate, get_or-replicate}
@@ -22,7 +22,7 @@ use Rattle.book.specs.Reads.{read_node}
 use Rattle.book.specs.Valid.{Within, Leaves}
 use Rattle.book.specs.Expression.{top as top_term}
 use Rattle.book.specs.Places.{rule_of}
-use Rattle.book.specs.Answers.{place_of, place_at}
+use Rattle.book.specs.Answers.{node_read, place_of, place_at}
 use Rattle.book.specs.ReadLawsWritten.{nodes_written}
 use Rattle.book.specs.ReadLawsPlaces.{RuleIn, node_step, rule_in_lem}
 use Rattle.book.specs.PlaceLaws.{place_known}
@@ -31,8 +31,7 @@ use Rattle.term.specs.Area.{pending, GrownFree, Room}
 use Rattle.term.specs.Places.{terms_at}
 use Rattle.term.specs.PlaceLaws.{terms_same, terms_last}
 use Rattle.term.specs.CellLaws.{grown_refl, grown_term, makes_old}
-use Rattle.normal.specs.declared.Made.{Made}
-use Rattle.normal.specs.declared.Made.TheVariants.{Term, Long as Made·long}
+use Rattle.term.specs.declared.Built.{Built}
 use Rattle.normal.specs.AnswerLaws.{Got, long_is, made_term, made_after, long_after}
 use Rattle.rule.specs.RunFit.{second, made, run_fit}
 use Rattle.rule.specs.RunFitLaws.{Held, made_held, run_fit_lem}
@@ -100,6 +99,12 @@ not_refused file v at left h r w some e =
     let z : ◌≡◌ {A = ℕ} 0 1 = cc in
     omega arith
 
+-- so the code's reading of it got a node
+pub node_is_read : {file : List ℕ} {v at left h : ℕ} (t : Result (Node × ℕ) Refusal) → Standing file v at left h → 0 < left
+    → node_read t ≡ read_node file v at → IsOk t
+node_is_read (Ok (n, next)) w some e = refl
+node_is_read (Err r) w some e = absurd (not_refused _ _ _ _ _ r w some (sym e))
+
 -- ---- the stack
 
 module _ (s st : List ℕ) where
@@ -153,7 +158,7 @@ module _ {file : List ℕ} {v at left : ℕ} {s : List ℕ} {top : ℕ} {st : Li
       go [] e many leaves = (e, leaves)
       go (n ∷ ns) e many leaves = absurd (omega arith)
 
-  pub work_ends : {b : ℕ} → left ≡ 0 → b ≡ get_or st (h + 1) 0 → Worked file v at left s top st h s (Term b top)
+  pub work_ends : {b : ℕ} → left ≡ 0 → b ≡ get_or st (h + 1) 0 → Worked file v at left s top st h s (Some (record { root = b; top = top }))
   unfolding run_fit
   work_ends {b} z e =
       let (none, alone) = nothing_left z in
@@ -161,7 +166,7 @@ module _ {file : List ℕ} {v at left : ℕ} {s : List ℕ} {top : ℕ} {st : Li
       let item : Item s top b = rw (e, ← place) (w.items 0 (omega arith)) in
       let whole : run_fit (nodes_left file v at left h) (stack_of s st h) ≡ Fits (term s b) =
       rw (none, run_fit, stack_top s st h (omega arith), e) in
-      made_term _ (rest_cells left h) (makes_old b 0 (term s b) w.sound item.low refl) whole (omega arith)
+      made_term (record { root = b; top = top }) _ (rest_cells left h) (makes_old b 0 (term s b) w.sound item.low refl) whole (omega arith)
 
   -- ---- one node
 
@@ -194,7 +199,7 @@ module _ {file : List ℕ} {v at left : ℕ} {s : List ℕ} {top : ℕ} {st : Li
 
     module _ {a b : ℕ} (p : a ≡ get_or st h 0) (q : b ≡ get_or st (h + 1) 0) where
       -- a result that is too long ends the work
-      pub step_long : {s1 : List ℕ} {m : Made} → NodeMade n s top a b s1 m → m ≡ Made·long → Worked file v at left s top st h s1 Made·long
+      pub step_long : {s1 : List ℕ} {m : Option Built} → NodeMade n s top a b s1 m → m ≡ None → Worked file v at left s top st h s1 None
       step_long made e =
           let none : run_fit (nodes_left file v at left h) (stack_of s st h) ≡ Long = rw (run_step p q, long_is made e) in
           long_after 0 (rest_cells left h) _ (grown_refl w.sound) (omega arith) made e none (omega (arith, node_few (step_asks p q)))
@@ -255,7 +260,7 @@ module _ {file : List ℕ} {v at left : ℕ} {s : List ℕ} {top : ℕ} {st : Li
             ∙ grown_term _ x.makes.grown w.sound (rw (above_spare s st i) (w.items i (omega arith)).low)) in
             stack_last s1 onto (h - t + 1) (omega arith) ∙ rw (one, same, stacked_here, x.makes.is, others, below)
 
-        pub step_made : {s2 : List ℕ} {r : Made} → Worked file v next (left - 1) s1 above (set st (h - t + 2) root) (h - t + 1) s2 r
+        pub step_made : {s2 : List ℕ} {r : Option Built} → Worked file v next (left - 1) s1 above (set st (h - t + 2) root) (h - t + 1) s2 r
             → Worked file v at left s top st h s2 r
         step_made m =
             made_after (node_cells n (term s a) (term s b)) (rest_cells left h) _ x.makes.grown x.makes.few m
@@ -263,9 +268,13 @@ module _ {file : List ℕ} {v at left : ℕ} {s : List ℕ} {top : ℕ} {st : Li
 
 -- ---- a whole rule
 
-module _ (file : List ℕ) (rule : ℕ) (has : Has file rule) (all : Bytes file) (p : RulePlace) (e : p ≡ place_of file rule) where
+-- it has a place
+pub rule_is_placed : {file : List ℕ} {rule : ℕ} (t : Option RulePlace) → Has file rule → t ≡ place_of file rule → IsSome t
+rule_is_placed {file} {rule} t has e = rw (e, place_known file has.book has.after rule has.read has.within) refl
+
+module _ (file : List ℕ) (rule : ℕ) (has : Has file rule) (all : Bytes file) (p : RulePlace) (e : Some p ≡ place_of file rule) where
   placed : p ≡ place_at has.book rule
-  placed = e ∙ place_known file has.book has.after rule has.read has.within
+  placed = cc (e, place_known file has.book has.after rule has.read has.within)
 
   there : RuleIn file has.book rule
   there = rule_in_lem file has.book has.after rule all has.read has.within
@@ -301,6 +310,6 @@ module _ (file : List ℕ) (rule : ℕ) (has : Has file rule) (all : Bytes file)
       let same : nodes_left file p.version p.at p.nodes 0 ≡ (rule_of has.book rule).nodes = nodes_left_lem file p.version p.at p.nodes 0 rule_stands in
       rw (same, has.read) (run_fit_lem has.book.version (rule_of has.book rule) there.valid)
 
-  pub rule_made : {s : List ℕ} {top : ℕ} → Sound s top → {s' : List ℕ} {r : Made}
+  pub rule_made : {s : List ℕ} {top : ℕ} → Sound s top → {s' : List ℕ} {r : Option Built}
       → Worked file p.version p.at p.nodes s top (replicate (nodes + 2) 0) 0 s' r → RuleMade file rule s top s' r
   rule_made {s} ok m = made_after 0 rule_cells _ (grown_refl ok) (omega arith) m (rule_normal s (replicate (nodes + 2) 0)) (omega (arith, rule_few))

@@ -8,9 +8,9 @@ ghost use Rattle.term.specs.Cells.{Sound};
 ghost use Rattle.term.specs.Area.{pending, Room};
 ghost use Rattle.rule.specs.Work.{Has, RuleMade, either_cells, node_room, Operands, EitherBuilt, NodeBuilt, NodeMade};
 
-use book::{Node, NodeRead};
+use book::Node;
 use meaning::Join;
-use normal::{Built, Made};
+use normal::Built;
 use number::limits::{CAPITAL, NODES};
 use term::Term;
 
@@ -47,7 +47,7 @@ fn node_built(cells: &mut [u64], top: usize, node: Node, a: usize, b: usize) -> 
 }
 
 // The same with the limit: all that a node makes is counted here.
-fn node_term(cells: &mut [u64], top: usize, node: Node, a: usize, b: usize) -> Made
+fn node_term(cells: &mut [u64], top: usize, node: Node, a: usize, b: usize) -> Option<Built>
     requires operands { Operands node cells.old top a b }
     requires room { Room cells.old top (node_room + pending) }
     ensures { NodeMade node cells.old top a b cells.new result }
@@ -56,36 +56,33 @@ fn node_term(cells: &mut [u64], top: usize, node: Node, a: usize, b: usize) -> M
     normal::fit(cells, made)
 }
 
-// The normal form of a rule of a book that is read, above `top`, or that it or a part of it is too long.
-// Two spare places below the stack of cells let every node read two numbers.
-pub fn rule_term(book: &[u8], rule: usize, cells: &mut [u64], top: usize) -> Made
+// The normal form of a rule of a book that is read, above `top`, or none if it or a part of it is too long.
+// Kept as an array with its height beside: by the two spare places below the stack every node reads two numbers, and none tests how many stand.
+// The book is read, so both answers that are unwrapped are there.
+pub fn rule_term(book: &[u8], rule: usize, cells: &mut [u64], top: usize) -> Option<Built>
     requires has { Has book.now rule }
     requires sound { Sound cells.old top }
     requires room { Room cells.old top scratch }
     ensures { RuleMade book.now rule cells.old top cells.new result }
 {
-    let place = places::rule_place(book, rule);
-    let version = place.version;
+    let place = places::rule_place(book, rule).unwrap();
     let mut stack = [0u16; NODES + 2];
     let mut height: usize = 0;
     let mut at = place.at;
-    let mut left = place.nodes;
     let mut free = top;
-    while 0 < left {
+    for _ in 0..place.nodes {
         let a = stack[height] as usize;
         let b = stack[height + 1] as usize;
-        let NodeRead::At(node, next) = book::read_node(book, at, version) else {
-            return Made::Long;
-        };
-        let Made::Term(root, above) = node_term(cells, free, node, a, b) else {
-            return Made::Long;
-        };
+        let (node, next) = book::read_node(book, at, place.version).unwrap();
+        let made = node_term(cells, free, node, a, b)?;
         let kept = height - book::takes(node);
-        stack[kept + 2] = root as u16;
+        stack[kept + 2] = made.root as u16;
         height = kept + 1;
         at = next;
-        left -= 1;
-        free = above;
+        free = made.top;
     }
-    Made::Term(stack[height + 1] as usize, free)
+    Some(Built {
+        root: stack[height + 1] as usize,
+        top: free,
+    })
 }

@@ -1,4 +1,4 @@
--- What finding the end of a run promises; the other functions of this crate promise what their contracts say at once.
+-- What the end of a run tells of the runs of a row, which the loops go by; the functions of this crate promise what their contracts say at once.
 -- The definitions are table's, of its Sheet.
 use Rattle.std.specs.Prelude.{ℕ, ◌-◌, ◌≤◌, ◌<◌, ◌≡◌, List, ◌∷◌, get_or}
 use Rattle.std.proofs.Math.Seq.{slice}

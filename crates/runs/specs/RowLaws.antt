@@ -1,15 +1,17 @@
 -- Laws of writing a row, for the code that works out its length and then writes it: what each step adds.
 -- Runs first, then rows, each with how long it can get.
-use Rattle.std.specs.Prelude.{ℕ, ◌+◌, ◌-◌, ◌*◌, ◌≤◌, ◌<◌, ◌≡◌, List, [], ◌∷◌, ◌++◌, length, get_or, replicate}
+use Rattle.std.specs.Prelude.{ℕ, zero, suc, ◌+◌, ◌-◌, ◌*◌, ◌≤◌, ◌<◌, ◌≡◌, List, [], ◌∷◌, ◌++◌, length, get_or, replicate}
 use Rattle.std.proofs.Common.{add-one, one-add, arith, ap, ◌∙◌, append_assoc, length-append}
 use Rattle.std.proofs.lemmas.List.{replicate-append-replicate}
-use Rattle.std.proofs.Math.Seq.{slice, slice-cons, slice_empty, length-slice}
+use Rattle.std.proofs.Math.Seq.{slice, slice-cons, slice_empty, take-length}
+use native.Mathlib.Decide.{dec_lt}
 use Rattle.number.specs.Numbers.{write_number}
 use Rattle.number.proofs.NumberLaws.{width_most}
 use Rattle.number.specs.Lists.{Writes, writes_none, writes_then}
 use Rattle.table.specs.Sheet.{Run, runs_of, write_runs, write_row}
 use Rattle.table.specs.Formed.{Ends}
 use Rattle.table.specs.SheetRuns.{runs_count, runs_from_lem}
+use Rattle.table.specs.Promises.{RunTo}
 use Rattle.runs.specs.Promises.{RunAt}
 
 -- ---- runs
@@ -59,6 +61,30 @@ module _ (targets : List ℕ) (from end : ℕ) (room : end ≤ length targets) w
         runs = ap runs_of a.same ∙ runs_from_lem (i - from) (get_or targets from 0) (slice i end targets) (omega (arith, a.onward)) ends;
       }
 
+module _ (targets : List ℕ) (from end : ℕ) (some : from < end) (room : end ≤ length targets) where
+  run_along : {stop : ℕ} → RunTo targets from end stop → (n : ℕ) → from + 1 + n ≤ stop → Along targets from end (from + 1 + n)
+  run_along r zero h =
+      let e : from + 1 + 0 ≡ from + 1 = omega arith in
+      rw e (along_start targets from end room some)
+  run_along r (suc n) h =
+      let e : from + 1 + suc n ≡ from + 1 + n + 1 = omega arith in
+      rw e (along_more targets from end room (from + 1 + n) (run_along r n (omega arith)) (omega (arith, r.within)) (r.alike (from + 1 + n) (omega arith) (omega arith)))
+
+  -- where a run of one target ends, the first run of the part does
+  pub run_at : {stop : ℕ} → RunTo targets from end stop → RunAt targets from end stop
+  run_at {stop} r =
+      let e : from + 1 + (stop - (from + 1)) ≡ stop = omega (arith, r.onward) in
+      let along = run_along r (stop - (from + 1)) (omega (arith, r.onward)) in
+      along_stop targets from end room stop (rw e at along)
+      (elim (dec_lt stop end) [
+        | yes h ↦ along_other targets from end room (get_or targets from 0) stop h (r.other h)
+        | no n ↦ along_end targets end (get_or targets from 0) stop (omega (arith, r.within))
+      ])
+
+-- the whole of a row
+pub row_whole : (row : List ℕ) → slice 0 (length row) row ≡ row
+row_whole row = take-length row
+
 -- ---- how long runs and rows can get
 
 -- a run's bytes, and those of the runs behind it
@@ -71,6 +97,9 @@ pub runs_short : (rs : List Run) → length (write_runs rs) ≤ 6 * length rs
 unfolding write_runs
 runs_short [] = omega arith
 runs_short (r ∷ rs) = omega (arith, runs_cons r rs, width_most r.len, width_most r.target, runs_short rs)
+
+pub row_runs_short : (row : List ℕ) → length (write_runs (runs_of row)) ≤ 6 * length row
+row_runs_short row = omega (arith, runs_short (runs_of row), runs_count row)
 
 pub row_is : (row : List ℕ) → length (write_row row) ≡ length (write_number (length (runs_of row))) + length (write_runs (runs_of row))
 unfolding write_row
@@ -97,13 +126,6 @@ pub part_some : {t : List ℕ} {from end stop : ℕ} → RunAt t from end stop
     → length (write_runs (runs_of (slice from end t)))
     ≡ length (write_number (stop - from)) + length (write_number (get_or t from 0)) + length (write_runs (runs_of (slice stop end t)))
 part_some r = rw r.runs (runs_cons _ _)
-
-module _ (t : List ℕ) (from end : ℕ) (room : end ≤ length t) where
-  pub part_few : length (runs_of (slice from end t)) ≤ end - from
-  part_few = omega (arith, runs_count (slice from end t), length-slice from end t room)
-
-  pub part_short : length (write_runs (runs_of (slice from end t))) ≤ 6 * (end - from)
-  part_short = omega (arith, runs_short (runs_of (slice from end t)), part_few)
 
 pub runs_written_none : (t : List ℕ) (from end : ℕ) (s : List ℕ) (at : ℕ) → from ≡ end
     → Writes (write_runs (runs_of (slice from end t))) s s at at

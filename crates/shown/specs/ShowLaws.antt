@@ -1,8 +1,8 @@
 -- Laws of what is shown once the walk is finished: the search for the first item whose labels differ, and the text of that item.
 -- What remains to be searched has the same answer as the whole; a text is that of the item it was found from, and one byte.
-use Rattle.std.specs.Prelude.{ℕ, zero, suc, ◌+◌, ◌-◌, ◌<◌, ◌≤◌, ◌≡◌, refl, Bool, true, false, cond, eqb, drop, set, replicate}
+use Rattle.std.specs.Prelude.{ℕ, zero, suc, ◌+◌, ◌-◌, ◌<◌, ◌≤◌, ◌≡◌, refl, Bool, true, false, cond, eqb, drop, set, replicate, Some, None}
 use Rattle.std.proofs.Math.Path.{sym, ap}
-use Rattle.std.proofs.Common.{subst, ◌∙◌, add-one, zero-add, arith, eq-eqb, ne_eqb, length-append, length-set, drop_of_length-le, drop-cons}
+use Rattle.std.proofs.Common.{◌∙◌, add-one, zero-add, arith, eq-eqb, ne_eqb, length-append, length-set, drop_of_length-le, drop-cons}
 use mathlib.Core.List.{List, [], ◌∷◌, ◌++◌, append_assoc}
 use Rattle.std.proofs.Math.ListN.{length, get_or}
 use Rattle.number.specs.Lists.{written, drop_written, stored_one, Writes, writes_none}
@@ -17,11 +17,9 @@ use Rattle.vector.specs.Vectors.{vector_of}
 use Rattle.vector.specs.Memory.{numbers_at, text_by, text_of, items_of}
 use Rattle.vector.specs.MemoryLaws.{items_length, items_at}
 use Rattle.vector.specs.MemoryLaws.{first_text}
-use Rattle.verdict.specs.declared.Compared.TheVariants.{Same, Differs}
 use Rattle.shown.specs.declared.Seen.{Seen}
-use Rattle.shown.specs.declared.Seen.TheVariants.{Alike, Differ}
 use Rattle.verdict.specs.Compare.{state_of, first_differing}
-use Rattle.verdict.specs.Compare.Verdict.{Same as Verdict·same, Differs as Verdict·differs}
+use Rattle.verdict.specs.Compare.Verdict.{Differs as Verdict·differs}
 use Rattle.shown.specs.Promises.{Sees, Traced, Blank, Shows}
 
 -- ---- the search
@@ -34,7 +32,7 @@ module _ (s : List ℕ) (n count : ℕ) (labels : List ℕ) where
   pub left_first : Left s n count labels 1
   left_first t e = refl
 
-  pub left_none : (k : ℕ) → count ≤ k → Left s n count labels k → Sees s n count labels Alike
+  pub left_none : (k : ℕ) → count ≤ k → Left s n count labels k → Sees s n count labels None
   unfolding first_differing
   left_none k l f t e =
       let over : length (items_of s n count) ≤ k = omega (arith, items_length s n count) in
@@ -55,7 +53,7 @@ module _ (s : List ℕ) (n count : ℕ) (labels : List ℕ) where
     pub left_next : book ≡ sheet → Left s n count labels (k + 1)
     left_next e t q = next t q ∙ rw (eq-eqb book sheet e, add-one)
 
-    pub left_found : (book ≡ sheet → ⊥) → Sees s n count labels (Differ k book sheet)
+    pub left_found : (book ≡ sheet → ⊥) → Sees s n count labels (Some (record { item = k; by_book = book; by_table = sheet }))
     left_found d = (inside, λ t q. next t q ∙ rw (ne_eqb book sheet d))
 
 -- ---- the text
@@ -179,22 +177,19 @@ written_padded area w b =
     ap (λ (l : List ℕ). w ++ l)
     (ap (drop (0 + length w)) b.clear ∙ ap (λ (x : ℕ). drop x (replicate (length area) 0)) (zero-add (length w)) ∙ drop_zeros (length area) (length w))
 
-module _ (s : List ℕ) (n count : ℕ) (labels area : List ℕ) (blank : Blank area) (x : Seen) (sees : Sees s n count labels x) where
-  pub shows_same : x ≡ Alike → Shows s n count labels area area Same
-  shows_same e = record {
-    shows = λ t q.
-        let v : first_differing t (drop 1 (items_of s n count)) ≡ Verdict·same = subst (Sees s n count labels) e sees t q in
-        record { answer = rw v refl; text = rw v blank.clear };
-  }
+module _ (s : List ℕ) (n count : ℕ) (labels area : List ℕ) (blank : Blank area) where
+  pub shows_same : Sees s n count labels None → Shows s n count labels area area None
+  shows_same sees = record { shows = λ t q. record { answer = rw (sees t q) refl; text = rw (sees t q) blank.clear } }
 
-  module _ (k book sheet : ℕ) (e : x ≡ Differ k book sheet) where
-    pub shows_inside : k < count
-    shows_inside = (subst (Sees s n count labels) e sees).0
+  module _ (x : Seen) (sees : Sees s n count labels (Some x)) where
+    pub shows_inside : x.item < count
+    shows_inside = sees.0
 
-    pub shows_differs : (area' : List ℕ) (len : ℕ) → Writes (text_of s k) area area' 0 len → Shows s n count labels area area' (Differs len book sheet)
+    pub shows_differs : (area' : List ℕ) (len : ℕ) → Writes (text_of s x.item) area area' 0 len
+        → Shows s n count labels area area' (Some (record { len = len; by_book = x.by_book; by_table = x.by_table }))
     shows_differs area' len w = record {
       shows = λ t q.
-          let v : first_differing t (drop 1 (items_of s n count)) ≡ Verdict·differs (text_of s k) book sheet = (subst (Sees s n count labels) e sees).1 t q in
-          let m : len ≡ length (text_of s k) = omega (arith, w.place) in
-          record { answer = rw (v, m) refl; text = w.out ∙ written_padded area (text_of s k) blank ∙ rw v refl };
+          let v = sees.1 t q in
+          let m : len ≡ length (text_of s x.item) = omega (arith, w.place) in
+          record { answer = rw (v, m) refl; text = w.out ∙ written_padded area (text_of s x.item) blank ∙ rw v refl };
     }

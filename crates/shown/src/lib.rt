@@ -8,31 +8,34 @@ ghost use Rattle.vector.specs.Memory.{text_of};
 ghost use Rattle.shown.specs.Promises.{Legible, Sees, Traced, Blank, Shows};
 
 use vector::layout::{BYTES_AT, PARENTS_AT, SHEETS_AT};
-use verdict::Compared;
+use verdict::Difference;
 
-// The items' labels agree; or the first item whose labels differ, the book's label and the table's.
+// An item whose labels differ, the book's label and the table's.
 #[derive(Clone, Copy)]
-enum Seen {
-    Alike,
-    Differ(usize, usize, usize),
+struct Seen {
+    item: usize,
+    by_book: usize,
+    by_table: usize,
 }
 
 // The first of the items past the entry whose labels differ, with both labels.
-fn first_differing<'a>(cells: &'a [u64], n: usize, count: usize, labels: &'a [u8]) -> Seen
+fn first_differing<'a>(cells: &'a [u64], n: usize, count: usize, labels: &'a [u8]) -> Option<Seen>
     requires { Legible cells.now n count labels.now }
     ensures { Sees cells.now n count labels.now result }
 {
-    let mut k: usize = 1;
-    while k < count {
+    for k in 1..count {
         let by_book = vector::label_of(cells, vector::load(cells, k), 0, n);
         let state = pair::state_of(cells[SHEETS_AT + k] as usize);
         let by_table = labels[state] as usize;
         if by_book != by_table {
-            return Seen::Differ(k, by_book, by_table);
+            return Some(Seen {
+                item: k,
+                by_book,
+                by_table,
+            });
         }
-        k += 1;
     }
-    Seen::Alike
+    None
 }
 
 // How long the text of item `k` is: a byte for each step back to the entry.
@@ -74,18 +77,17 @@ pub fn show<'a>(
     count: usize,
     labels: &'a [u8],
     area: &mut [u8],
-) -> Compared
+) -> Option<Difference>
     requires legible { Legible cells.now n count labels.now }
     requires traced { Traced cells.now count }
     requires blank { Blank area.old }
     ensures { Shows cells.now n count labels.now area.old area.new result }
 {
-    let seen = first_differing(cells, n, count, labels);
-    match seen {
-        Seen::Alike => Compared::Same,
-        Seen::Differ(k, by_book, by_table) => {
-            let len = write_text(cells, k, area);
-            Compared::Differs(len, by_book, by_table)
-        }
-    }
+    let seen = first_differing(cells, n, count, labels)?;
+    let len = write_text(cells, seen.item, area);
+    Some(Difference {
+        len,
+        by_book: seen.by_book,
+        by_table: seen.by_table,
+    })
 }

@@ -1,6 +1,6 @@
 -- Vector 0 in the work area, book by book: what the code asks, and what it leaves.
 -- What has come of a vector is told by its terms; the rules of one more book are put behind those before.
-use Rattle.std.specs.Prelude.{ℕ, ◌≡◌, true, false, List, [], ◌++◌, length}
+use Rattle.std.specs.Prelude.{ℕ, ◌≡◌, Option, IfSome, IfNone, List, [], ◌++◌, length}
 use Rattle.number.specs.Refused.{Answer}
 use Rattle.number.specs.Refused.Answer.{got, refused}
 use Rattle.meaning.specs.Re.{Re}
@@ -34,9 +34,9 @@ abbrev pub fronts : List Re → Vector → Vector
 fronts xs TooLong = TooLong
 fronts xs (Terms ys) = Terms (xs ++ ys)
 
--- the answer is this vector: Long where it is, else its n terms, with all their parts in a pool that holds nothing else; x is the pool's index
-pub record Starts (u : Vector) (n : ℕ) (x s : List ℕ) (r : Derived) : Type 0 where
-  pub too_long : r.long ≡ true → u ≡ TooLong
-  pub terms : r.long ≡ false → u ≡ Terms (vector_of s n r.vector.at)
-  pub first : r.long ≡ false → First s n r.top r.vector.at
-  pub indexed : r.long ≡ false → Indexed x s r.top
+-- the answer is this vector: None where it is too long, else its n terms, with all their parts in a pool that holds nothing else; x is the pool's index
+pub record Starts (u : Vector) (n : ℕ) (x s : List ℕ) (r : Option Derived) : Type 0 where
+  pub too_long : IfNone r (u ≡ TooLong)
+  pub terms : IfSome r (λ d. u ≡ Terms (vector_of s n d.vector.at))
+  pub first : IfSome r (λ d. First s n d.top d.vector.at)
+  pub indexed : IfSome r (λ d. Indexed x s d.top)

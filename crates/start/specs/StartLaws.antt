@@ -1,6 +1,6 @@
 -- Laws for vector 0, rule by rule: a rule that is too long makes the vector so, and any other is one place more of it.
 -- What remains, put behind what was done, is the whole vector; at the end nothing remains.
-use Rattle.std.specs.Prelude.{ℕ, suc, ◌+◌, ◌<◌, ◌≤◌, ◌≡◌, refl, true, List, [], ◌∷◌, ◌++◌, length, get_or, drop, set, replicate}
+use Rattle.std.specs.Prelude.{ℕ, suc, ◌+◌, ◌<◌, ◌≤◌, ◌≡◌, refl, true, Option, None, List, [], ◌∷◌, ◌++◌, length, get_or, drop, set, replicate}
 use Rattle.std.proofs.Common.{add-one, arith, sym, ap, subst, ◌∙◌, append_assoc, append-nil, length-set, drop_of_length-le, drop-cons, get_or-set_same}
 use Rattle.std.proofs.lemmas.List.{length-map, length-replicate, get_or-replicate}
 use Rattle.std.proofs.Math.ListN.{get_or-map}
@@ -16,8 +16,7 @@ use Rattle.book.specs.Places.{no_rule}
 use Rattle.book.specs.ReadLaws.{book_valid}
 use Rattle.term.specs.Cells.{term}
 use Rattle.term.specs.Area.{Room}
-use Rattle.normal.specs.declared.Made.{Made}
-use Rattle.normal.specs.declared.Made.TheVariants.{Long as Made·long}
+use Rattle.term.specs.declared.Built.{Built}
 use Rattle.normal.specs.AnswerLaws.{Got, long_is}
 use Rattle.rule.specs.Work.{Has, rule_in, rule_cells, RuleMade}
 use Rattle.pool.specs.Pooled.{terms_of, Pooled}
@@ -57,7 +56,7 @@ unfolding normalised
 fronts_all xs rs e = rw e (ap Terms (append-nil xs))
 
 -- no terms in front of a vector
-pub starts_none : {u : Vector} {n m : ℕ} {x s : List ℕ} {r : Derived} → Starts (fronts [] u) n x s r → n ≡ m → Starts u m x s r
+pub starts_none : {u : Vector} {n m : ℕ} {x s : List ℕ} {r : Option Derived} → Starts (fronts [] u) n x s r → n ≡ m → Starts u m x s r
 starts_none {u} {n} {m} {x} {s} {r} a e = subst (λ (k : ℕ). Starts u k x s r) e (subst (λ (v : Vector). Starts v n x s r) (fronts_none u) a)
 
 -- ---- no rule yet
@@ -141,7 +140,7 @@ module _ {file : List ℕ} {n : ℕ} (o : Opened file n) {k : ℕ} (fits : k + n
       rule_room = omega (arith, low, g.first.kept.long)
 
       -- a rule that is too long
-      pub rule_long : {s₁ : List ℕ} {r : Made} → RuleMade file i s top s₁ r → r ≡ Made·long → u ≡ TooLong
+      pub rule_long : {s₁ : List ℕ} {r : Option Built} → RuleMade file i s top s₁ r → r ≡ None → u ≡ TooLong
       rule_long m e =
           sym g.terms ∙ ap (λ (l : List Re). fronts (vector_of s (k + i) w) (normalised l)) (rule_next o i h)
           ∙ fronts_long (vector_of s (k + i) w) (rule_in file i) (drop (i + 1) (rules_in file)) (long_is m e)

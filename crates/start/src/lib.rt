@@ -11,12 +11,11 @@ ghost use Rattle.vector.specs.Vectors.{vector_of};
 ghost use Rattle.vector.specs.Memory.{First};
 ghost use Rattle.start.specs.Start.{rules_in, Opened, fronts, Starts};
 
-use normal::Made;
 use number::limits::RULES;
 use vector::layout::NOTHING_CELL;
 use vector::{Derived, Vector};
 
-// A book's `n` rules in normal form, put behind the `k` terms of a vector that the pool holds already; or that a rule or a part of one is too long.
+// A book's `n` rules in normal form, put behind the `k` terms of a vector that the pool holds already; None where a rule or a part of one is too long.
 pub fn add_rules(
     book: &[u8],
     n: usize,
@@ -25,7 +24,7 @@ pub fn add_rules(
     top: usize,
     v: Vector,
     k: usize,
-) -> Derived
+) -> Option<Derived>
     requires opened { Opened book.now n }
     requires first { First cells.old k top v.at }
     requires n_bound { k + n ≤ rules }
@@ -33,31 +32,22 @@ pub fn add_rules(
     ensures { Starts (fronts (vector_of cells.old k v.at) (normalised (rules_in book.now)))
         (k + n) index.new cells.new result }
 {
-    let mut to = v.at;
+    let mut at = v.at;
     let mut next = top;
-    let mut i: usize = 0;
-    while i < n {
-        let Made::Term(root, _) = rule::rule_term(book, i, cells, next) else {
-            return Derived {
-                long: true,
-                top: next,
-                vector: Vector { at: to },
-            };
-        };
-        let placed = pooling::put_term(index, cells, next, root);
-        to[k + i] = placed.root;
+    for i in 0..n {
+        let made = rule::rule_term(book, i, cells, next)?;
+        let placed = pooling::put_term(index, cells, next, made.root);
+        at[k + i] = placed.root;
         next = placed.top;
-        i += 1;
     }
-    Derived {
-        long: false,
+    Some(Derived {
         top: next,
-        vector: Vector { at: to },
-    }
+        vector: Vector { at },
+    })
 }
 
-// The vector of a book's `n` rules in normal form, in a pool with its index that holds nothing else; or that a rule or a part of one is too long.
-pub fn first_vector(book: &[u8], n: usize, index: &mut [u16], cells: &mut [u64]) -> Derived
+// The vector of a book's `n` rules in normal form, in a pool with its index that holds nothing else; None where a rule or a part of one is too long.
+pub fn first_vector(book: &[u8], n: usize, index: &mut [u16], cells: &mut [u64]) -> Option<Derived>
     requires opened { Opened book.now n }
     requires work_length_in_bounds { work_length ≤ length cells.old }
     requires cells_len_bound { length cells.old ≤ work_cells }

@@ -1,6 +1,8 @@
 -- Laws for comparing two terms in step: what each return of a look at two nodes tells, and one for each place of the loop.
 -- In a turn a pair of nodes is seen: where they are told equal the last pair that waits comes next, else their children do.
 use Prim.Native.Nat.{ℕ, zero, suc, ◌+◌, ◌-◌, ◌<◌, ◌≤◌, Ordering, compare}
+use Rattle.std.proofs.Math.ListN.{get_or-map}
+use Rattle.std.proofs.lemmas.List.{map-set}
 use Rattle.std.proofs.lemmas.Bool.{lt-ltb, le-ltb}
 use borrow.Author.Tests.{eq-eqb, ne_eqb}
 use Rattle.std.proofs.Common.{arith, sym, ap, ◌∙◌}
@@ -11,7 +13,7 @@ use Rattle.meaning.specs.PartLaws.{size_some}
 use Rattle.meaning.specs.SizeLaws.{short_size}
 use Rattle.meaning.specs.Limited.{short}
 use Rattle.meaning.specs.Order.{order, also}
-use Rattle.meaning.specs.OrderLaws.{Compared, compared, also_assoc, also_eq}
+use Rattle.meaning.specs.OrderLaws.{Compared, compared, compare_eq, order_parts, also_assoc, also_eq}
 use Rattle.meaning.specs.OrderLaws.Compared.{less, equal, more}
 use Rattle.term.specs.declared.Term.{Term}
 use Rattle.std.specs.declared.cmp.Ordering.{Ordering as Answer}
@@ -22,9 +24,9 @@ use Rattle.term.specs.declared.Glance.TheVariants.{Told, One, Two}
 use Rattle.term.specs.Cells.{term, Sound}
 use Rattle.term.specs.Nodes.{kind_of, first_of, second_of, arity_of, ordering, Found}
 use Rattle.term.specs.Places.{terms_at, ahead, most_waiting}
-use Rattle.term.specs.Compares.{decides, Only, Both, Glanced, orders, Comparing}
+use Rattle.term.specs.Compares.{decides, Only, Both, Glanced, lefts, rights, orders, Comparing}
 use Rattle.term.specs.CellLaws.{sound_less}
-use Rattle.term.specs.ReadLaws.{arity_same, arity_two, one_part, two_parts, one_size, two_size, order_only, order_both}
+use Rattle.term.specs.ReadLaws.{arity_same, arity_two, one_part, two_parts, one_size, two_size, ranks, order_only, order_both}
 use Rattle.term.specs.PlaceLaws.{set_there, set_other, listed_less, listed_more, sizes_most, ahead_last, ahead_set}
 
 -- ---- the library's comparisons, in the order's words
@@ -47,7 +49,35 @@ ordering_decides Less = refl
 ordering_decides Equal = refl
 ordering_decides Greater = refl
 
+-- a comparison that decides stands before any other, and one that doesn't leaves it
+also_decided : (o p : Ordering) → decides o ≡ true → o ≡ also o p
+also_decided Ordering.lt p e = refl
+also_decided Ordering.eq p e = absurd (let z : ◌≡◌ {A = ℕ} 0 1 = cc in omega arith)
+also_decided Ordering.gt p e = refl
+
+also_first : (o p q : Ordering) → o ≡ p → decides o ≡ true → o ≡ also p q
+also_first o p q e d = rw (← e) (also_decided o q d)
+
+also_open : (o p : Ordering) → decides o ≡ false → also o p ≡ p
+also_open Ordering.lt p e = absurd (let z : ◌≡◌ {A = ℕ} 0 1 = cc in omega arith)
+also_open Ordering.eq p e = refl
+also_open Ordering.gt p e = absurd (let z : ◌≡◌ {A = ℕ} 0 1 = cc in omega arith)
+
 -- ---- a look at two nodes
+
+-- of two kinds, as the library compares them
+not_decided : (o : Ordering) → decides o ≡ false → o ≡ Ordering.eq
+not_decided Ordering.lt d = absurd (let z : ◌≡◌ {A = ℕ} 0 1 = cc in omega arith)
+not_decided Ordering.eq d = refl
+not_decided Ordering.gt d = absurd (let z : ◌≡◌ {A = ℕ} 0 1 = cc in omega arith)
+
+pub kinds_same : {m n : ℕ} {o : Ordering} → o ≡ compare m n → decides o ≡ false → m ≡ n
+kinds_same {m} {n} {o} e d = compare_eq (compared m n) (sym e ∙ not_decided o d)
+
+pub kinds_apart : {s : List ℕ} {i j : ℕ} {u v : Term} {o : Ordering} → Found s i u → Found s j v → o ≡ compare (kind_of u) (kind_of v) → decides o ≡ true
+    → o ≡ order (term s i) (term s j)
+kinds_apart {s} {i} {j} {u} {v} {o} x y e d =
+    also_first o _ _ (e ∙ sym (ranks x y)) d ∙ sym (order_parts (term s i) (term s j))
 
 module _ {s : List ℕ} {i j : ℕ} {u v : Term} (x : Found s i u) (y : Found s j v) (e : kind_of u ≡ kind_of v) where
   pub only : {a b : ℕ} → arity_of u ≡ 1 → a ≡ first_of u → b ≡ first_of v → Only s i j a b
@@ -84,16 +114,6 @@ module _ {s : List ℕ} {i j : ℕ} {r : Glance} (g : Glanced s i j r) where
 
 -- ---- the pairs that wait
 
-also_decided : (o p : Ordering) → decides o ≡ true → o ≡ also o p
-also_decided Ordering.lt p e = refl
-also_decided Ordering.eq p e = absurd (let z : ◌≡◌ {A = ℕ} 0 1 = cc in omega arith)
-also_decided Ordering.gt p e = refl
-
-also_open : (o p : Ordering) → decides o ≡ false → also o p ≡ p
-also_open Ordering.lt p e = absurd (let z : ◌≡◌ {A = ℕ} 0 1 = cc in omega arith)
-also_open Ordering.eq p e = refl
-also_open Ordering.gt p e = absurd (let z : ◌≡◌ {A = ℕ} 0 1 = cc in omega arith)
-
 orders_none : (s l r : List ℕ) (n : ℕ) → n ≡ 0 → orders s l r n ≡ Ordering.eq
 unfolding orders
 orders_none s l r n e = rw (e, orders)
@@ -117,6 +137,19 @@ orders_set s l r n c d h k =
     let last = orders_last s (set l n c) (set r n d) (n + 1) (omega arith) in
     let same = orders_same s l r (set l n c) (set r n d) n (set_other l n c h) (set_other r n d k) in
     rw (one, set_there l n c h, set_there r n d k, same) at last
+
+-- a pair is read and listed
+pub left_at : (ps : List (ℕ × ℕ)) (n : ℕ) → get_or (lefts ps) n 0 ≡ (get_or ps n (0, 0)).0
+left_at ps n = get_or-map (λ (p : ℕ × ℕ). p.0) ps n (0, 0)
+
+pub right_at : (ps : List (ℕ × ℕ)) (n : ℕ) → get_or (rights ps) n 0 ≡ (get_or ps n (0, 0)).1
+right_at ps n = get_or-map (λ (p : ℕ × ℕ). p.1) ps n (0, 0)
+
+pub lefts-set : (ps : List (ℕ × ℕ)) (n c d : ℕ) → lefts (set ps n (c, d)) ≡ set (lefts ps) n c
+lefts-set ps n c d = map-set (λ (p : ℕ × ℕ). p.0) ps n (c, d)
+
+pub rights-set : (ps : List (ℕ × ℕ)) (n c d : ℕ) → rights (set ps n (c, d)) ≡ set (rights ps) n d
+rights-set ps n c d = map-set (λ (p : ℕ × ℕ). p.1) ps n (c, d)
 
 -- ---- the loop
 

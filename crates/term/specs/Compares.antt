@@ -1,7 +1,7 @@
 -- What a look at two nodes tells of the order of their terms, and how two terms are gone through in step.
--- The pairs of places that wait stand in two lists, one for each term; the last listed comes first.
+-- The pairs of places that wait stand in a list, of which the places in one term and those in the other are two; the last listed comes first.
 use Prim.Native.Nat.{ℕ, zero, suc, ◌+◌, ◌<◌, ◌≤◌, Ordering}
-use Rattle.std.specs.Prelude.{◌≡◌, Bool, true, false, List, get_or}
+use Rattle.std.specs.Prelude.{◌≡◌, Bool, true, false, List, get_or, map}
 use Rattle.number.specs.Limits.{tree_nodes}
 use Rattle.meaning.specs.Re.{size}
 use Rattle.meaning.specs.Order.{order, also}
@@ -40,6 +40,13 @@ Shown s i j (Two a b c d) = Both s i j a b c d
 
 pub record Glanced (s : List ℕ) (i j : ℕ) (r : Glance) : Type 0 where
   pub shown : Shown s i j r
+
+-- the places of the first term in a list of pairs, and those of the second
+abbrev pub lefts : List (ℕ × ℕ) → List ℕ
+lefts ps = map (λ p. p.0) ps
+
+abbrev pub rights : List (ℕ × ℕ) → List ℕ
+rights ps = map (λ p. p.1) ps
 
 -- the order of the pairs in the first n places of two lists, the last first
 unfoldable pub orders : List ℕ → List ℕ → List ℕ → ℕ → Ordering

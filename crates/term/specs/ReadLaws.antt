@@ -259,7 +259,7 @@ order_one s i j e = rw e (order_self (term s j))
 
 -- what two nodes tell: of two kinds, and of one kind by the number of their children
 module _ {s : List ℕ} {i j : ℕ} {u v : Term} (x : Found s i u) (y : Found s j v) where
-  ranks : compare (rank (term s i)) (rank (term s j)) ≡ compare (kind_of u) (kind_of v)
+  pub ranks : compare (rank (term s i)) (rank (term s j)) ≡ compare (kind_of u) (kind_of v)
   ranks = rw (x.is, y.is, rank_grow u (term s), rank_grow v (term s))
 
   pub order_less : kind_of u < kind_of v → order (term s i) (term s j) ≡ Ordering.lt

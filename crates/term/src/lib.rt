@@ -2,7 +2,7 @@
 // A node is an enum by value; a child's number is below its parent's, so that going down ends.
 #![tactic(auto)]
 
-ghost use Rattle.std.specs.Prelude.{◌≡◌, true, ◌&&◌, eqb, length, get_or};
+ghost use Rattle.std.specs.Prelude.{◌≡◌, true, length, get_or};
 ghost use Prim.Native.Nat.{◌+◌, ◌<◌, compare};
 ghost use Rattle.meaning.specs.Derive.{nullable as matches_empty};
 ghost use Rattle.meaning.specs.Order.{order, also};
@@ -44,52 +44,23 @@ const LINK_PLACE: u64 = KIND_SIZE * FIELD_SIZE * FIELD_SIZE;
 
 const BIT_PLACE: u64 = LINK_PLACE * FIELD_SIZE;
 
-// The places of the kinds in the order of terms.
-pub const NOTHING: usize = 0;
-
-pub const EMPTY: usize = 1;
-
-pub const RANGE: usize = 2;
-
-pub const CAT: usize = 3;
-
-pub const ALT: usize = 4;
-
-pub const STAR: usize = 5;
-
-pub const AND: usize = 6;
-
-pub const NOT: usize = 7;
-
 // Room for the places that wait while a short term is gone through: for each a node was seen, and one is still to be seen.
 pub const WAITING: usize = (TREE_NODES + 1) / 2;
 
-// The node of a kind over two fields.
+// The node of a kind over two fields. A kind is a number here and in `kind_of`, since a cell packs it as one.
 pub fn rebuilt(kind: usize, first: usize, second: usize) -> Term
     ensures { result ≡ node_by kind first second }
 {
-    if kind == EMPTY {
-        return Term::Empty;
+    match kind {
+        1 => Term::Empty,
+        2 => Term::Range(first, second),
+        3 => Term::Cat(first, second),
+        4 => Term::Alt(first, second),
+        5 => Term::Star(first),
+        6 => Term::And(first, second),
+        7 => Term::Not(first),
+        _ => Term::Nothing,
     }
-    if kind == RANGE {
-        return Term::Range(first, second);
-    }
-    if kind == CAT {
-        return Term::Cat(first, second);
-    }
-    if kind == ALT {
-        return Term::Alt(first, second);
-    }
-    if kind == STAR {
-        return Term::Star(first);
-    }
-    if kind == AND {
-        return Term::And(first, second);
-    }
-    if kind == NOT {
-        return Term::Not(first);
-    }
-    Term::Nothing
 }
 
 // The node of a cell.
@@ -108,14 +79,14 @@ pub fn kind_of(t: Term) -> usize
     ensures { result ≡ kind_of t }
 {
     match t {
-        Term::Nothing => NOTHING,
-        Term::Empty => EMPTY,
-        Term::Range(_, _) => RANGE,
-        Term::Cat(_, _) => CAT,
-        Term::Alt(_, _) => ALT,
-        Term::Star(_) => STAR,
-        Term::And(_, _) => AND,
-        Term::Not(_) => NOT,
+        Term::Nothing => 0,
+        Term::Empty => 1,
+        Term::Range(_, _) => 2,
+        Term::Cat(_, _) => 3,
+        Term::Alt(_, _) => 4,
+        Term::Star(_) => 5,
+        Term::And(_, _) => 6,
+        Term::Not(_) => 7,
     }
 }
 
@@ -123,14 +94,10 @@ pub fn first_of(t: Term) -> usize
     ensures { result ≡ first_of t }
 {
     match t {
-        Term::Nothing => 0,
-        Term::Empty => 0,
-        Term::Range(lo, _) => lo,
-        Term::Cat(a, _) => a,
-        Term::Alt(a, _) => a,
-        Term::Star(a) => a,
-        Term::And(a, _) => a,
-        Term::Not(a) => a,
+        Term::Nothing | Term::Empty => 0,
+        Term::Range(first, _) | Term::Cat(first, _) | Term::Alt(first, _) | Term::And(first, _) =>
+            first,
+        Term::Star(first) | Term::Not(first) => first,
     }
 }
 
@@ -138,14 +105,11 @@ pub fn second_of(t: Term) -> usize
     ensures { result ≡ second_of t }
 {
     match t {
-        Term::Nothing => 0,
-        Term::Empty => 0,
-        Term::Range(_, hi) => hi,
-        Term::Cat(_, b) => b,
-        Term::Alt(_, b) => b,
-        Term::Star(_) => 0,
-        Term::And(_, b) => b,
-        Term::Not(_) => 0,
+        Term::Range(_, second)
+        | Term::Cat(_, second)
+        | Term::Alt(_, second)
+        | Term::And(_, second) => second,
+        _ => 0,
     }
 }
 
@@ -154,14 +118,9 @@ pub fn arity(t: Term) -> usize
     ensures { result ≡ arity_of t }
 {
     match t {
-        Term::Nothing => 0,
-        Term::Empty => 0,
-        Term::Range(_, _) => 0,
-        Term::Cat(_, _) => 2,
-        Term::Alt(_, _) => 2,
-        Term::Star(_) => 1,
-        Term::And(_, _) => 2,
-        Term::Not(_) => 1,
+        Term::Nothing | Term::Empty | Term::Range(_, _) => 0,
+        Term::Star(_) | Term::Not(_) => 1,
+        Term::Cat(_, _) | Term::Alt(_, _) | Term::And(_, _) => 2,
     }
 }
 
@@ -218,28 +177,17 @@ pub fn nullable(cells: &[u64], i: usize) -> bool
     cells[i] / BIT_PLACE % 2 == 1
 }
 
-// Whether two terms both do.
-fn both_nullable(cells: &[u64], a: usize, b: usize) -> bool
-    requires sound { Sound cells.now (a + 1) }
-    requires sound_2 { Sound cells.now (b + 1) }
-    ensures { result ≡ (matches_empty (term cells.now a) && matches_empty (term cells.now b)) }
-{
-    nullable(cells, a) && nullable(cells, b)
-}
-
 // Whether the term of a node does, by the bits of its children.
+#[tactic(auto, unfolding(meaning::specs::Derive::nullable))]
 fn node_nullable(cells: &[u64], node: Term) -> bool
     requires { Over cells.now node }
     ensures { result ≡ matches_empty (grow node (term cells.now)) }
 {
     match node {
-        Term::Nothing => false,
-        Term::Empty => true,
-        Term::Range(_, _) => false,
-        Term::Cat(a, b) => both_nullable(cells, a, b),
+        Term::Nothing | Term::Range(_, _) => false,
+        Term::Empty | Term::Star(_) => true,
+        Term::Cat(a, b) | Term::And(a, b) => nullable(cells, a) && nullable(cells, b),
         Term::Alt(a, b) => nullable(cells, a) || nullable(cells, b),
-        Term::Star(_) => true,
-        Term::And(a, b) => both_nullable(cells, a, b),
         Term::Not(a) => !nullable(cells, a),
     }
 }
@@ -268,22 +216,16 @@ pub fn push(cells: &mut [u64], top: usize, node: Term) -> usize
 }
 
 // What a node is.
-fn is_kind(t: Term, kind: usize) -> bool
-    ensures { result ≡ eqb (kind_of t) kind }
-{
-    kind_of(t) == kind
-}
-
 pub fn is_nothing(t: Term) -> bool
     ensures { result ≡ nothing_node t }
 {
-    is_kind(t, NOTHING)
+    matches!(t, Term::Nothing)
 }
 
 pub fn is_empty(t: Term) -> bool
     ensures { result ≡ empty_node t }
 {
-    is_kind(t, EMPTY)
+    matches!(t, Term::Empty)
 }
 
 // Whether a term's tree has few enough nodes. It is gone through from left to right: where a node has two children, the place of the
@@ -294,9 +236,7 @@ pub fn is_short(cells: &mut [u64], top: usize, i: usize) -> bool
 {
     let mut at = i;
     let mut end = top;
-    let mut left = TREE_NODES;
-    while 0 < left {
-        left -= 1;
+    for _seen in 0..TREE_NODES {
         let node = node_at(cells, at);
         let children = arity(node);
         if children == 0 {
@@ -344,13 +284,9 @@ fn compare_nodes(cells: &[u64], i: usize, j: usize) -> Glance
     }
     let x = node_at(cells, i);
     let y = node_at(cells, j);
-    let kind = kind_of(x);
-    let other = kind_of(y);
-    if kind < other {
-        return Glance::Told(Ordering::Less);
-    }
-    if other < kind {
-        return Glance::Told(Ordering::Greater);
+    let kinds = kind_of(x).cmp(&kind_of(y));
+    if kinds.is_ne() {
+        return Glance::Told(kinds);
     }
     let children = arity(x);
     if children == 0 {
@@ -363,15 +299,14 @@ fn compare_nodes(cells: &[u64], i: usize, j: usize) -> Glance
 }
 
 // Compares two terms, gone through in step from left to right: where two nodes have two children each, the places of the second ones
-// are listed, to be compared when the first ones were found equal.
+// are listed as pairs, to be compared when the first ones were found equal.
 fn compare_parts(cells: &[u64], i: usize, j: usize) -> Ordering
     requires sound { Sound cells.now (i + 1) }
     requires sound_2 { Sound cells.now (j + 1) }
     requires i_value { short (term cells.now i) ≡ true }
     ensures { ordering result ≡ order (term cells.now i) (term cells.now j) }
 {
-    let mut left = [0u16; WAITING];
-    let mut right = [0u16; WAITING];
+    let mut pairs = [(0u16, 0u16); WAITING];
     let mut waiting = 0usize;
     let mut a = i;
     let mut b = j;
@@ -386,16 +321,16 @@ fn compare_parts(cells: &[u64], i: usize, j: usize) -> Ordering
                     return order;
                 }
                 waiting -= 1;
-                a = left[waiting] as usize;
-                b = right[waiting] as usize;
+                let (c, d) = pairs[waiting];
+                a = c as usize;
+                b = d as usize;
             }
             Glance::One(c, d) => {
                 a = c;
                 b = d;
             }
             Glance::Two(c, d, e, f) => {
-                left[waiting] = e as u16;
-                right[waiting] = f as u16;
+                pairs[waiting] = (e as u16, f as u16);
                 waiting += 1;
                 a = c;
                 b = d;
@@ -414,7 +349,6 @@ pub fn compare_terms(cells: &[u64], i: usize, j: usize) -> Ordering
     let glance = compare_nodes(cells, i, j);
     match glance {
         Glance::Told(order) => order,
-        Glance::One(_, _) => compare_parts(cells, i, j),
-        Glance::Two(_, _, _, _) => compare_parts(cells, i, j),
+        Glance::One(_, _) | Glance::Two(_, _, _, _) => compare_parts(cells, i, j),
     }
 }

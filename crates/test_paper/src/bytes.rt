@@ -1,16 +1,15 @@
 // Calls that take bytes alone: numbers and fields, books and kinds of rules.
 // What is called answers numbers or a refusal.
 use crate::say;
-use book::{Checked, RuleKind};
-use number::{Grouped, Taken};
+use number::{Grouped, Refusal};
 
-fn tell_taken(rt: &HostRuntime, got: Taken) {
+fn tell_taken(rt: &HostRuntime, got: Result<(usize, usize), Refusal>) {
     match got {
-        Taken::Value(value, next) => {
+        Ok((value, next)) => {
             say::counted(rt, value, b" then ");
             say::count(rt, next);
         }
-        Taken::Refused(r) => say::refusal(rt, r),
+        Err(r) => say::refusal(rt, r),
     }
 }
 
@@ -22,25 +21,25 @@ pub(crate) fn tell_number(rt: &HostRuntime, read: Grouped) {
     say::counted(rt, groups, b"\n");
 }
 
-pub(crate) fn tell_field(rt: &HostRuntime, got: Taken) {
+pub(crate) fn tell_field(rt: &HostRuntime, got: Result<(usize, usize), Refusal>) {
     tell_taken(rt, got);
     say::text(rt, b"\n");
 }
 
 pub(crate) fn tell_book(rt: &HostRuntime, bytes: &[u8]) {
     match checking::check_book(bytes) {
-        Checked::Counts(rules, nodes) => {
+        Ok((rules, nodes)) => {
             say::counted(rt, rules, b" rules ");
             say::counted(rt, nodes, b" nodes\n");
         }
-        Checked::Refused(r) => say::refused(rt, r),
+        Err(r) => say::refused(rt, r),
     }
 }
 
 pub(crate) fn tell_kind(rt: &HostRuntime, bytes: &[u8], rule: usize) {
     match places::rule_kind(bytes, rule) {
-        RuleKind::Kind(kind) => say::counted(rt, kind, b"\n"),
-        RuleKind::NoRule => say::text(rt, b"no rule\n"),
-        RuleKind::Unknown(r) => say::refused(rt, r),
+        Ok(Some(kind)) => say::counted(rt, kind, b"\n"),
+        Ok(None) => say::text(rt, b"no rule\n"),
+        Err(r) => say::refused(rt, r),
     }
 }

@@ -57,15 +57,13 @@ fn digit(c: u8) -> usize
 
 // A decimal number, and the place behind what ends it.
 fn number(line: &[u8], from: usize) -> Got {
-    let mut i = from;
     let mut value: usize = 0;
-    while i < line.len() {
+    for i in from..line.len() {
         let d = digit(line[i]);
-        i += 1;
         if 9 < d {
             return Got {
                 value: value,
-                next: i,
+                next: i + 1,
             };
         }
         if value < 100000 {
@@ -74,7 +72,7 @@ fn number(line: &[u8], from: usize) -> Got {
     }
     Got {
         value: value,
-        next: i,
+        next: line.len(),
     }
 }
 

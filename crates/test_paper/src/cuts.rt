@@ -4,6 +4,7 @@ ghost use Rattle.std.specs.Prelude.{◌≤◌};
 
 use crate::say;
 use cutting::{Ended, Word};
+use number::Refusal;
 
 // More cells than a case has, and what they hold before.
 const CELLS: usize = 300;
@@ -31,15 +32,15 @@ fn cells(rt: &HostRuntime, records: &[usize]) {
     say::text(rt, b"\n");
 }
 
-fn tell(rt: &HostRuntime, ended: Ended, records: &[usize]) {
+fn tell(rt: &HostRuntime, ended: Result<Ended, Refusal>, records: &[usize]) {
     match ended {
-        Ended::Done(count) => {
+        Ok(Ended::Done(count)) => {
             say::text(rt, b"done ");
             say::count(rt, count);
         }
-        Ended::Stuck(count, place) => say::placed(rt, b"stuck ", count, place),
-        Ended::Full(count, place) => say::placed(rt, b"full ", count, place),
-        Ended::Refused(r) => say::refusal(rt, r),
+        Ok(Ended::Stuck(count, place)) => say::placed(rt, b"stuck ", count, place),
+        Ok(Ended::Full(count, place)) => say::placed(rt, b"full ", count, place),
+        Err(r) => say::refusal(rt, r),
     }
     cells(rt, records);
 }
@@ -64,7 +65,7 @@ pub(crate) fn into_cells<'a>(
 }
 
 // Both records are printed, whatever was lent.
-fn tell_records(rt: &HostRuntime, ended: Ended, words: [Word; ROOM]) {
+fn tell_records(rt: &HostRuntime, ended: Result<Ended, Refusal>, words: [Word; ROOM]) {
     let first = words[0];
     let second = words[1];
     tell(

@@ -82,14 +82,8 @@ fn run_line(rt: &HostRuntime, line: &[u8]) {
 }
 
 fn run_lines(rt: &HostRuntime, text: &[u8]) {
-    let mut at: usize = 0;
-    while at < text.len() {
-        let stop = cases::find(text, at, b'\n');
-        if stop < at {
-            return;
-        }
-        run_line(rt, &text[at..stop]);
-        at = stop + 1;
+    for line in text.split(|c| *c == b'\n') {
+        run_line(rt, line);
     }
 }
 

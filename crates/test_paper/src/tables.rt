@@ -1,7 +1,6 @@
 // Tables in lent memory: read from sheets and written to them, into areas that are large enough, too small or too large.
 // A sheet that is to be written back is written from the table that was read.
 use crate::say;
-use table::{Counted, Written};
 
 // One label and 256 targets more than a table has, and more bytes than a case has written.
 const LABELS: usize = 256;
@@ -28,26 +27,26 @@ fn tell_back<'a>(
     let mut out = [0u8; OUT];
     say::counted(rt, count, b" states ");
     match writing::write_sheet(count, labels, targets, &mut out) {
-        Written::Bytes(end) => {
+        Ok(end) => {
             say::counted(rt, end, b" bytes ");
             if end <= OUT {
                 tell_same(rt, sheet, &out[0..end]);
             }
         }
-        Written::Unwritten(r) => say::refused(rt, r),
+        Err(r) => say::refused(rt, r),
     }
 }
 
 fn load(rt: &HostRuntime, sheet: &[u8], labels: &mut [u8], targets: &mut [u8], back: usize) {
     match loading::load(sheet, labels, targets) {
-        Counted::States(s) => {
+        Ok(s) => {
             if back == 0 {
                 say::counted(rt, s, b" states\n");
             } else {
                 tell_back(rt, sheet, s, labels, targets);
             }
         }
-        Counted::Refused(r) => {
+        Err(r) => {
             if back == 0 {
                 say::refused(rt, r);
             } else {
@@ -83,7 +82,7 @@ pub(crate) fn tell_write<'a>(
         return;
     }
     match writing::write_sheet(count, labels, targets, &mut out[0..most]) {
-        Written::Bytes(end) => say::counted(rt, end, b" bytes\n"),
-        Written::Unwritten(r) => say::refused(rt, r),
+        Ok(end) => say::counted(rt, end, b" bytes\n"),
+        Err(r) => say::refused(rt, r),
     }
 }

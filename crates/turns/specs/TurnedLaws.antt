@@ -1,6 +1,6 @@
 -- Laws of a turn: one for each step of the code that puts its lines, and one for each way that it can end.
 -- Records lie in cells; that their lines are the lines of the words is the first law.
-use Rattle.std.specs.Prelude.{ℕ, suc, ◌+◌, ◌-◌, ◌*◌, ◌/◌, ◌<◌, ◌≤◌, ◌≡◌, refl, Bool, true, false, cond, List, [], ◌∷◌, ◌++◌, length, get_or, drop, set}
+use Rattle.std.specs.Prelude.{ℕ, suc, ◌+◌, ◌-◌, ◌*◌, ◌/◌, ◌<◌, ◌≤◌, ◌≡◌, refl, Bool, true, false, cond, List, [], ◌∷◌, ◌++◌, length, get_or, drop, set, Result}
 use Rattle.std.proofs.Math.Decide.{dec_lt}
 use Rattle.std.proofs.Common.{add-zero, arith, sym, ap, ◌∙◌, append-nil, le-ltb, length-drop, get_or-drop, drop-drop, get_or-set_same, get_or-set_other}
 use Rattle.std.proofs.Math.ListN.{get_or-eq_default}
@@ -105,7 +105,7 @@ clash e = let z : ◌≡◌ {A = ℕ} 0 1 = cc in omega arith
 given : {x y : Report} → ◌≡◌ {A = Outcome Report} (gives x) (gives y) → x ≡ y
 given e = cc
 
-module _ (s : ℕ) (l t : List ℕ) (text : Text) (at : ℕ) (m m' : List ℕ) (r : Ended) (cuts : CutsInto s l t text at m m' r) where
+module _ (s : ℕ) (l t : List ℕ) (text : Text) (at : ℕ) (m m' : List ℕ) (r : Result Ended Refusal) (cuts : CutsInto s l t text at m m' r) where
   pub came : (e : Ending) (n : ℕ) → ended r ≡ gives (record { ending = e; count = n })
       → Came (turn_of s l t text at (length m / record_cells)) m' (length m / record_cells) (length text - at) n e
   came e n f = go (well_formed s l t) cuts.answer cuts.cells

@@ -9,10 +9,10 @@ ghost use Rattle.lines.specs.Lines.{line_room};
 ghost use Rattle.programs.specs.Output.{kind_in as kind_of_rule};
 ghost use Rattle.turns.specs.Turned.{Kinds, kind_by, cell_lines, turn_of, Turned};
 
-use book::RuleKind;
 use cutting::{Ended, RECORD_CELLS};
 
 // How a turn ends: on from a place with so many words so far, or nothing more; and where its lines end.
+// Kept as an enum of its own, since both are ways to go on and neither is a failure.
 #[derive(Clone, Copy)]
 pub enum Turn {
     Onward(usize, usize, usize),
@@ -24,9 +24,8 @@ fn kind_in(book: &[u8], rule: usize) -> usize
     ensures { result ≡ kind_of_rule book.now rule }
 {
     match places::rule_kind(book, rule) {
-        RuleKind::Kind(kind) => kind,
-        RuleKind::NoRule => 0,
-        RuleKind::Unknown(_) => 0,
+        Ok(Some(kind)) => kind,
+        Ok(None) | Err(_) => 0,
     }
 }
 
@@ -34,20 +33,16 @@ fn kind_in(book: &[u8], rule: usize) -> usize
 pub fn look_up(book: &[u8], kinds: &mut [usize])
     ensures { Kinds book.now kinds.new }
 {
-    let mut i: usize = 0;
-    while i < kinds.len() {
-        kinds[i] = kind_in(book, i);
-        i += 1;
+    for (rule, kind) in kinds.iter_mut().enumerate() {
+        *kind = kind_in(book, rule);
     }
 }
 
+// Past the list's end it is 0.
 fn kind_at(kinds: &[usize], rule: usize) -> usize
     ensures { result ≡ get_or kinds.now rule 0 }
 {
-    if rule < kinds.len() {
-        return kinds[rule];
-    }
-    0
+    kinds.get(rule).copied().unwrap_or(0)
 }
 
 // The lines of so many records, at the front of the buffer.
@@ -57,14 +52,12 @@ fn put_words(records: &[usize], kinds: &[usize], count: usize, out: &mut [u8]) -
     ensures writes { Writes (cell_lines (kind_by kinds.now) records.now count) out.old out.new 0 result }
     ensures upper_bound { result ≤ line_room * count }
 {
-    let mut k: usize = 0;
     let mut end: usize = 0;
-    while k < count {
+    for k in 0..count {
         let cell = RECORD_CELLS * k;
         let rule = records[cell + 2];
         let kind = kind_at(kinds, rule);
         end = lines::put_word(records[cell], records[cell + 1], rule, kind, out, end);
-        k += 1;
     }
     end
 }
@@ -88,18 +81,18 @@ pub fn cut_turn<'a>(
         out.old out.new result }
 {
     match cutting::cut_from(count, labels, targets, text, place, records) {
-        Ended::Done(n) => {
+        Ok(Ended::Done(n)) => {
             let next = put_words(records, kinds, n, out);
             Turn::Last(lines::put_done(total + n, out, next))
         }
-        Ended::Stuck(n, stuck) => {
+        Ok(Ended::Stuck(n, stuck)) => {
             let next = put_words(records, kinds, n, out);
             Turn::Last(lines::put_stuck(stuck, out, next))
         }
-        Ended::Full(n, full) => {
+        Ok(Ended::Full(n, full)) => {
             let next = put_words(records, kinds, n, out);
             Turn::Onward(full, total + n, next)
         }
-        Ended::Refused(r) => Turn::Last(lines::put_refused(r, out, 0)),
+        Err(r) => Turn::Last(lines::put_refused(r, out, 0)),
     }
 }

@@ -1,7 +1,8 @@
 -- Laws for the derivative of a vector, place by place: the terms of the places done, the pool that holds them with their parts, and their shape.
 -- One law for each of the code's steps: a place more is done, or its term is too long.
-use Rattle.std.specs.Prelude.{ℕ, zero, suc, ◌+◌, ◌*◌, ◌<◌, ◌≤◌, ◌≡◌, refl, true, List, [], ◌∷◌, ◌++◌, length, get_or, take, set}
+use Rattle.std.specs.Prelude.{ℕ, zero, suc, ◌+◌, ◌*◌, ◌<◌, ◌≤◌, ◌≡◌, refl, true, Option, None, List, [], ◌∷◌, ◌++◌, length, get_or, take, set}
 use Rattle.std.proofs.Common.{add-one, arith, sym, ap, ◌∙◌, take-suc}
+use Rattle.std.proofs.lemmas.List.{map-append}
 use Rattle.number.specs.Limits.{rules, tree_nodes, pool}
 use Rattle.meaning.specs.Re.{Re, size}
 use Rattle.meaning.specs.Re.Re.{Nothing}
@@ -14,8 +15,7 @@ use Rattle.meaning.specs.SizeLaws.{short_size}
 use Rattle.term.specs.Cells.{term}
 use Rattle.term.specs.Area.{pending, Wasted}
 use Rattle.term.specs.CellLaws.{frame}
-use Rattle.normal.specs.declared.Made.{Made}
-use Rattle.normal.specs.declared.Made.TheVariants.{Long as Made·long}
+use Rattle.term.specs.declared.Built.{Built}
 use Rattle.normal.specs.Made.{MadeBy}
 use Rattle.derivative.specs.Derives.{deriv_room, deriv_cells, Derives}
 use Rattle.normal.specs.AnswerLaws.{Got, long_is, long_wasted}
@@ -29,7 +29,7 @@ use Rattle.vector.specs.Layout.{nothing_cell}
 use Rattle.vector.specs.Vectors.{vector_of}
 use Rattle.vector.specs.Promises.{Derivable, Done, Spared}
 use Rattle.vector.specs.PlaceLaws.{vector_length, vector_at}
-use Rattle.vector.specs.PutLaws.{map_snoc, with_snoc, Puts, More, term_puts, term_more}
+use Rattle.vector.specs.PutLaws.{with_snoc, Puts, More, term_puts, term_more}
 
 -- ---- the terms of a derived vector
 
@@ -69,7 +69,7 @@ derived_long c (r ∷ rs) (suc k) h e = rw (derived_long c rs k (omega arith) e)
     front_long (Fits x) = refl
 
 vector_next : (s : List ℕ) (i : ℕ) (v : List ℕ) → i < length v → vector_of s (i + 1) v ≡ vector_of s i v ++ (term s (get_or v i 0) ∷ [])
-vector_next s i v h = rw (add-one, take-suc v i 0 h) (map_snoc (term s) (take i v) (get_or v i 0))
+vector_next s i v h = rw (add-one, take-suc v i 0 h) (map-append (term s) (take i v) (get_or v i 0 ∷ []))
 
 -- ---- the loop over the places
 
@@ -141,8 +141,8 @@ module _ {x s : List ℕ} {top n : ℕ} {v : List ℕ} {byte : ℕ} {x₁ s₁ :
   }
 
   -- the place's term is too long, and so is the vector
-  module _ {s₂ : List ℕ} {r : Made} (m : MadeBy s₁ next s₂ r (deriv_fit byte (term s₁ (get_or v i 0))) (deriv_cells (term s₁ (get_or v i 0))))
-      (e : r ≡ Made·long) where
+  module _ {s₂ : List ℕ} {r : Option Built} (m : MadeBy s₁ next s₂ r (deriv_fit byte (term s₁ (get_or v i 0))) (deriv_cells (term s₁ (get_or v i 0))))
+      (e : r ≡ None) where
     wasted : Wasted s₁ next s₂ (next + deriv_cells (term s₁ (get_or v i 0)) + pending)
     wasted = long_wasted m e
 

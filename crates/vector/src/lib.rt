@@ -11,7 +11,6 @@ ghost use Rattle.vector.specs.Vectors.{vector_of};
 ghost use Rattle.vector.specs.Memory.{numbers_at};
 ghost use Rattle.vector.specs.Promises.{Within, Reads, ReadsShort, Derivable, Derives, PairTold, Finds, vector_stored, item_stored};
 
-use normal::Made;
 use number::limits::{BYTES, RULES};
 
 pub mod layout;
@@ -95,10 +94,8 @@ pub fn derive_vector(
     let mut at = [NOTHING_CELL; RULES];
     let mut next = top;
     for i in 0..n {
-        let Made::Term(root, _) = derivative::derive(cells, next, v.at[i], byte) else {
-            return None;
-        };
-        let placed = pooling::put_term(index, cells, next, root);
+        let made = derivative::derive(cells, next, v.at[i], byte)?;
+        let placed = pooling::put_term(index, cells, next, made.root);
         at[i] = placed.root;
         next = placed.top;
     }

@@ -1,6 +1,7 @@
 -- What compare_book answers and leaves in lent memory, for every input: its promise cites this.
 -- Room, then Loaded, then the book's refusals, then the walk's; Same and every refusal but Room leave the text area all 0.
-use Rattle.std.specs.Prelude.{ℕ, cond, ◌||◌, List, ltb, length, replicate}
+use Rattle.std.specs.Prelude.{ℕ, cond, ◌||◌, List, ltb, length, replicate, Option, Some, None, Result, Ok, Err}
+use Rattle.number.specs.declared.Refusal.{Refusal}
 use Rattle.number.specs.declared.Refusal.TheVariants.{Room, Loaded}
 use Rattle.number.specs.Limits.{shown_text}
 use Rattle.number.specs.Refused.{Answer, Outcome}
@@ -12,8 +13,7 @@ use Rattle.book.specs.Expression.{meant}
 use Rattle.table.specs.Table.{Table, lent, well_formed}
 use Rattle.table.specs.Calls.{padded}
 use Rattle.vector.specs.Layout.{work_length}
-use Rattle.verdict.specs.declared.Compared.{Compared}
-use Rattle.verdict.specs.declared.Compared.TheVariants.{Same, Differs, Refused}
+use Rattle.verdict.specs.declared.Difference.{Difference}
 use Rattle.verdict.specs.Compare.{Verdict, compare_rules}
 use Rattle.verdict.specs.Compare.Verdict.{Same as Verdict·same, Differs as Verdict·differs}
 
@@ -23,10 +23,10 @@ pub data Told : Type 0 where
   differs : ℕ → ℕ → ℕ → Told
 
 -- the code's answer as the paper has it
-abbrev pub compared : Compared → Outcome Told
-compared Same = gives same
-compared (Differs n b s) = gives (differs n b s)
-compared (Refused r) = refuses r
+abbrev pub compared : Result (Option Difference) Refusal → Outcome Told
+compared (Ok None) = gives same
+compared (Ok (Some d)) = gives (differs d.len d.by_book d.by_table)
+compared (Err r) = refuses r
 
 -- the comparison of a book with a table
 abbrev pub compare_read : Table → Answer Book → Outcome Verdict

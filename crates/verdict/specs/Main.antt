@@ -1,6 +1,6 @@
 -- The theorems of comparing that are bought, together; each is proved in the file that its proof names, or computed here.
 -- To believe them, read the definitions: Demand, Compare, Calls, Called and Sample here, Texts, Walk and Passing in walk, and those that they stand on.
-use Rattle.std.specs.Prelude.{ℕ, ◌≤◌, ◌≡◌, refl, true, false, List, ◌↔◌, length, replicate}
+use Rattle.std.specs.Prelude.{ℕ, ◌≤◌, ◌≡◌, refl, true, false, List, ◌↔◌, length, replicate, Some, None, Ok, Err}
 use Rattle.std.proofs.Common.{arith}
 use Rattle.number.specs.declared.Refusal.{Refusal}
 use Rattle.number.specs.declared.Refusal.TheVariants.{Long, Loaded, Room}
@@ -20,7 +20,6 @@ use Rattle.cutting.specs.CutLaws.{by_rules, cut_exactly}
 use Rattle.walk.specs.Bought.{OwnRefusal}
 use Rattle.walk.specs.Passing.{Limits}
 use Rattle.built.specs.Calls.{build_book, build_of}
-use Rattle.verdict.specs.declared.Compared.TheVariants.{Same as Compared·same, Differs as Compared·differs, Refused as Compared·refused}
 use Rattle.verdict.specs.Compare.{Verdict, beside, compare_rules_to, compare_rules}
 use Rattle.verdict.specs.Compare.Verdict.{Same, Differs}
 use Rattle.verdict.specs.Calls.{compared, compare_book, Comparison, compare_of}
@@ -109,8 +108,8 @@ pub the_own_call : (file labels targets scratch : List ℕ) (n : ℕ) → (build
 the_own_call = own_call
 
 -- the code's answers, as the paper has them: the length of the text, the book's label, the table's
-pub the_answers : (compared Compared·same ≡ gives same) × ((n book table : ℕ) → compared (Compared·differs n book table) ≡ gives (differs n book table))
-    × ((r : Refusal) → compared (Compared·refused r) ≡ refuses r)
+pub the_answers : (compared (Ok None) ≡ gives same) × ((n book table : ℕ) → compared (Ok (Some (record { len = n; by_book = book; by_table = table }))) ≡ gives (differs n book table))
+    × ((r : Refusal) → compared (Err r) ≡ refuses r)
 the_answers = (refl, λ n book table. refl, λ r. refl)
 
 -- ---- computed by the checker

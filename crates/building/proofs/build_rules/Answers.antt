@@ -1,36 +1,36 @@
 -- `building::build_rules` meets its contract: the walk that begins at vector 0 is the one that builds the book's rules.
 -- Assumes nothing.
-use Rattle.building.specs.AnswerLaws.{tabled_as, rules_long, rules_stop, rules_fillable, rules_table}
 use mathlib.Core.Path.{refl}
 use lib.ListN.{replicate}
+use Rattle.std.proofs.lemmas.Result.{err_from_is_err_and}
 use Rattle.pool.specs.Index.{heads}
 use Rattle.pool.specs.IndexLaws.{indexed_none}
 use Rattle.steps.specs.CallLaws.{followed}
+use Rattle.building.specs.AnswerLaws.{tabled_as, rules_long, rules_stop, rules_fillable, rules_table}
 use Rattle.building.proofs.build_rules.Goals as goal
 
-pub first_vector-first-requires : goal.first_vector-first-requires
-first_vector-first-requires c =
+pub first_vector-requires : goal.first_vector-requires
+first_vector-requires c =
     record { opened = c.requires.opened; work_length_in_bounds = c.requires.roomy.long; cells_len_bound = c.requires.roomy.small; indexed = indexed_none (replicate heads 0) _ refl }
 
-pub returns-then-first : goal.returns-then-first
-returns-then-first c = rules_long _ (c.first_vector-first.ensures.too_long c.if-first.true)
+pub returns-in_default : goal.returns-in_default
+returns-in_default c = rules_long _ c.in_default.ensures.too_long
 
-pub hold_first-begun-requires : goal.hold_first-begun-requires
-hold_first-begun-requires c = c.first_vector-first.ensures.first c.if-first.false
+pub hold_first-requires : goal.hold_first-requires
+hold_first-requires c = c.in-Some.ensures.first
+
+pub returns-in_err-begun : goal.returns-in_err-begun
+returns-in_err-begun c =
+    let told = err_from_is_err_and c.from_residual.result c.from_residual.ensures.1 in
+    rw (told.1, told.2) (rules_stop _ c.in-Some.ensures.terms c.hold_first.ensures.begins c.in_err-begun.was)
 
 pub fill_table-requires : goal.fill_table-requires
 fill_table-requires c =
-    let f = c.first_vector-first.ensures.terms c.if-first.false in
-    let x = c.first_vector-first.ensures.indexed c.if-first.false in
-    let y = followed (c.hold_first-begun.ensures.keeps.keeps _ x) c.in-Reached.is in
-    record { fillable = rules_fillable _ f c.hold_first-begun.ensures.begins c.in-Reached.is c.requires.roomy.targets; states_in_bounds = c.requires.roomy.labels; indexed = y }
+    record {
+      fillable = rules_fillable _ c.in-Some.ensures.terms c.hold_first.ensures.begins c.in_ok-begun.was c.requires.roomy.targets;
+      states_in_bounds = c.requires.roomy.labels;
+      indexed = followed (c.hold_first.ensures.keeps.keeps _ c.in-Some.ensures.indexed) c.in_ok-begun.was;
+    }
 
-pub returns-in-Stopped : goal.returns-in-Stopped
-returns-in-Stopped c =
-    let f = c.first_vector-first.ensures.terms c.if-first.false in
-    rules_stop _ f c.hold_first-begun.ensures.begins c.in-Stopped.is
-
-pub returns-in-Reached : goal.returns-in-Reached
-returns-in-Reached c =
-    let f = c.first_vector-first.ensures.terms c.if-first.false in
-    tabled_as _ c.fill_table.ensures (rules_table _ f c.hold_first-begun.ensures.begins c.in-Reached.is)
+pub returns : goal.returns
+returns c = tabled_as _ c.fill_table.ensures (rules_table _ c.in-Some.ensures.terms c.hold_first.ensures.begins c.in_ok-begun.was)

@@ -1,7 +1,8 @@
 -- `derivative::derive` meets its contract: one law of the limited derivative a call and a return. Assumes nothing.
-use Rattle.std.proofs.Common.{ℕ, ◌∙◌, arith}
+use Rattle.std.proofs.Common.{ℕ, refl, ◌∙◌, arith}
 use Rattle.meaning.specs.Limited.{deriv_fit}
 use Rattle.term.specs.Cells.{term}
+use Rattle.term.specs.Nodes.{kind_of}
 use Rattle.term.specs.CellLaws.{found}
 use Rattle.normal.specs.AnswerLaws.{Got, got}
 use Rattle.derivative.specs.Derives.{deriv_cells, rest_fit, rest_cells}
@@ -10,10 +11,10 @@ use Rattle.derivative.proofs.+derive.Goals as goal
 use Rattle.derivative.proofs.+derive.Goals.{After-rest_of-rest, In_ok-da, In_ok-left, In_ok-db}
 
 -- the parts of a node that has some
-has : (t : ℕ) (c : After-rest_of-rest t) → Parts c.args.cells.now c.args.i c.kind_of-kind.result c.first_of-a.result c.rest_of-rest.result
+has : (t : ℕ) (c : After-rest_of-rest t) → Parts c.args.cells.now c.args.i (kind_of c.node_at-node.result) c.first_of-a.result c.rest_of-rest.result
 has t c =
     parts (found _ _ _ _ c.requires.sound c.requires.held c.node_at-node.ensures) (λ e. c.if-arity-eq0.false (c.arity.ensures ∙ e))
-    c.requires.in_shape c.kind_of-kind.ensures c.first_of-a.ensures c.rest_of-rest.ensures
+    c.requires.in_shape refl c.first_of-a.ensures c.rest_of-rest.ensures
 
 -- what the callees made, where it is a term: of the first part, with the rest behind it, and of the second side
 da : (t : ℕ) (c : In_ok-da t) → Got c.args.cells.now c.args.top c.derive.new.cells c.in_ok-da.da.root c.in_ok-da.da.top
@@ -21,8 +22,8 @@ da : (t : ℕ) (c : In_ok-da t) → Got c.args.cells.now c.args.top c.derive.new
 da t c = got c.derive.ensures c.in_ok-da.was
 
 led : (t : ℕ) (c : In_ok-left t) → Got c.derive.new.cells c.in_ok-da.da.top c.with_rest.new.cells c.in_ok-left.left.root c.in_ok-left.left.top
-    (rest_fit c.kind_of-kind.result (term c.derive.new.cells c.in_ok-da.da.root) (term c.derive.new.cells c.rest_of-rest.result))
-    (rest_cells c.kind_of-kind.result (term c.derive.new.cells c.in_ok-da.da.root) (term c.derive.new.cells c.rest_of-rest.result))
+    (rest_fit (kind_of c.node_at-node.result) (term c.derive.new.cells c.in_ok-da.da.root) (term c.derive.new.cells c.rest_of-rest.result))
+    (rest_cells (kind_of c.node_at-node.result) (term c.derive.new.cells c.in_ok-da.da.root) (term c.derive.new.cells c.rest_of-rest.result))
 led t c = got c.with_rest.ensures c.in_ok-left.was
 
 db : (t : ℕ) (c : In_ok-db t) → Got c.with_rest.new.cells c.in_ok-left.left.top c.derive-then-both_sides.new.cells c.in_ok-db.db.root c.in_ok-db.db.top

@@ -53,9 +53,9 @@ returns-then-count-eq0 c =
     c.loop-node.at = c.loop-node.invariant in
     let told : c.node_at-node.result ≡ node_of (get_or c.args.cells.now c.loop-node.at 0) = c.node_at-node.ensures in
     let leaf : arity_of c.node_at-node.result ≡ 0 = sym c.arity-children.ensures ∙ c.if-children-eq0.true in
-    let least : c.smaller-least.result
+    let least : c.min-least.result
     ≡ min c.loop-node.least
-    (leaf_edge c.node_at-node.result c.args.byte) = c.smaller-least.ensures ∙ ap (min c.loop-node.least) c.leaf_edge-then-children-eq0.ensures in
+    (leaf_edge c.node_at-node.result c.args.byte) = c.min-least.ensures ∙ ap (min c.loop-node.least) c.leaf_edge-then-children-eq0.ensures in
     laws.edge_told sound fits _ passing told leaf least c.if-count-eq0.true
 
 pub bounds-waiting-count : goal.bounds-waiting-count
@@ -89,9 +89,9 @@ loop-node-preserved-then-children-eq0 c =
     c.loop-node.at = c.loop-node.invariant in
     let told : c.node_at-node.result ≡ node_of (get_or c.args.cells.now c.loop-node.at 0) = c.node_at-node.ensures in
     let leaf : arity_of c.node_at-node.result ≡ 0 = sym c.arity-children.ensures ∙ c.if-children-eq0.true in
-    let least : c.smaller-least.result
+    let least : c.min-least.result
     ≡ min c.loop-node.least
-    (leaf_edge c.node_at-node.result c.args.byte) = c.smaller-least.ensures ∙ ap (min c.loop-node.least) c.leaf_edge-then-children-eq0.ensures in
+    (leaf_edge c.node_at-node.result c.args.byte) = c.min-least.ensures ∙ ap (min c.loop-node.least) c.leaf_edge-then-children-eq0.ensures in
     laws.leaf_next sound fits _ passing told leaf c.if-count-eq0.false least
 
 pub overflow_cast-at : goal.overflow_cast-at

@@ -15,9 +15,9 @@ abbrev pub invariant-loop-i : goal.invariant-loop-i
 invariant-loop-i l =
     (length l.cells ≡ length l.initial.cells)
     × (length l.targets ≡ length l.initial.targets)
-    × Rowing l.count (rows alone states 0 (held_of l.initial.cells l.n l.top l.count)) l.initial.targets l.cells l.n l.next l.held l.i l.targets
+    × Rowing l.fn.held.count (rows alone states 0 (held_of l.initial.cells l.n l.fn.held.top l.fn.held.count)) l.initial.targets l.cells l.n l.next.top l.next.count l.i l.targets
     × (length l.index ≡ length l.initial.index)
-    × Indexed l.index l.cells l.next
+    × Indexed l.index l.cells l.next.top
 
 abbrev pub decreases-loop-i : goal.decreases-loop-i
 decreases-loop-i l = states - l.i

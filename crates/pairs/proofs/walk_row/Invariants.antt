@@ -10,7 +10,7 @@ use Rattle.pairs.proofs.walk_row.Given as goal
 
 abbrev pub invariant-loop-c : goal.invariant-loop-c
 invariant-loop-c l =
-    Turn l.initial.cells l.n l.top l.count l.i l.targets l.place l.base l.cells l.next l.held l.c × (length l.index ≡ length l.initial.index) × Indexed l.index l.cells l.next
+    Turn l.initial.cells l.n l.fn.held.top l.fn.held.count l.i l.targets l.place l.base l.cells l.next.top l.next.count l.c × (length l.index ≡ length l.initial.index) × Indexed l.index l.cells l.next.top
 
 abbrev pub decreases-loop-c : goal.decreases-loop-c
 decreases-loop-c l = bytes - l.c

@@ -10,7 +10,7 @@ use Rattle.pairs.proofs.walk_rows.Given as goal
 
 abbrev pub invariant-loop-i : goal.invariant-loop-i
 invariant-loop-i l =
-    Rounds l.initial.cells l.n l.top l.count l.targets l.cells l.next l.held l.i × (length l.index ≡ length l.initial.index) × Indexed l.index l.cells l.next
+    Rounds l.initial.cells l.n l.fn.held.top l.fn.held.count l.targets l.cells l.next.top l.next.count l.i × (length l.index ≡ length l.initial.index) × Indexed l.index l.cells l.next.top
 
 abbrev pub decreases-loop-i : goal.decreases-loop-i
 decreases-loop-i l = items - l.i

@@ -3,25 +3,27 @@
 use native.Mathlib.Omega.{arith}
 use mathlib.Core.Path.{ap}
 use lib.ListN.{length}
-use Rattle.runs.specs.RowLaws.{runs_none, runs_some, part_few}
+use Rattle.table.specs.Sheet.{runs_of}
+use Rattle.table.specs.SheetRuns.{runs_count}
+use Rattle.runs.specs.RowLaws.{run_at, row_whole, runs_none, runs_some}
 use Rattle.runs.proofs.count_runs.Goals as goal
 
 pub loop-start-init : goal.loop-start-init
-loop-start-init c = omega arith
-
-pub run_end-start-requires : goal.run_end-start-requires
-run_end-start-requires c = (omega arith, omega arith)
+loop-start-init c = (omega arith, omega (arith, ap (λ row. length (runs_of row)) (row_whole c.args.row.now)))
 
 pub overflow_add-count : goal.overflow_add-count
 overflow_add-count c =
-    omega (arith, runs_some c.run_end-start.ensures, part_few c.args.targets.now c.args.from c.args.end (omega arith))
+    let run = run_at c.args.row.now c.loop-start.start (length c.args.row.now) (omega arith) (omega arith) c.run_end-start.ensures in
+    omega (arith, runs_some run, runs_count c.args.row.now)
 
 pub loop-start-smaller : goal.loop-start-smaller
-loop-start-smaller c = omega arith
+loop-start-smaller c = omega (arith, c.run_end-start.ensures.onward)
 
 pub loop-start-preserved : goal.loop-start-preserved
-loop-start-preserved c = (omega arith, omega (arith, runs_some c.run_end-start.ensures))
+loop-start-preserved c =
+    let run = run_at c.args.row.now c.loop-start.start (length c.args.row.now) (omega arith) (omega arith) c.run_end-start.ensures in
+    (c.run_end-start.ensures.within, omega (arith, runs_some run))
 
 pub returns : goal.returns
 returns c =
-    omega (arith, ap length (runs_none c.args.targets.now c.loop-start.start c.args.end (omega arith)))
+    omega (arith, ap length (runs_none c.args.row.now c.loop-start.start (length c.args.row.now) (omega arith)))

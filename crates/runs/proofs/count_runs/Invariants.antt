@@ -9,7 +9,7 @@ use Rattle.runs.proofs.count_runs.Given as goal
 
 abbrev pub invariant-loop-start : goal.invariant-loop-start
 invariant-loop-start l =
-    (l.start ≤ l.end) × (l.count + length (runs_of (slice l.start l.end l.targets)) ≡ length (runs_of (slice l.from l.end l.targets)))
+    (l.start ≤ length l.row) × (l.count + length (runs_of (slice l.start (length l.row) l.row)) ≡ length (runs_of l.row))
 
 abbrev pub decreases-loop-start : goal.decreases-loop-start
-decreases-loop-start l = l.end - l.start
+decreases-loop-start l = length l.row - l.start

@@ -9,8 +9,8 @@ use Rattle.runs.proofs.runs_length.Given as goal
 
 abbrev pub invariant-loop-start : goal.invariant-loop-start
 invariant-loop-start l =
-    (l.from ≤ l.start) × (l.start ≤ l.end)
-    × (l.len + length (write_runs (runs_of (slice l.start l.end l.targets))) ≡ length (write_runs (runs_of (slice l.from l.end l.targets))))
+    (l.start ≤ length l.row)
+    × (l.len + length (write_runs (runs_of (slice l.start (length l.row) l.row))) ≡ length (write_runs (runs_of l.row)))
 
 abbrev pub decreases-loop-start : goal.decreases-loop-start
-decreases-loop-start l = l.end - l.start
+decreases-loop-start l = length l.row - l.start

@@ -11,10 +11,10 @@ use Rattle.runs.proofs.write_runs.Given as goal
 
 abbrev pub invariant-loop-start : goal.invariant-loop-start
 invariant-loop-start l =
-    (l.from ≤ l.start) × (l.start ≤ l.end) × (length l.out ≡ length l.initial.out)
-    × (l.next + length (write_runs (runs_of (slice l.start l.end l.targets))) ≤ length l.out)
-    × ((out' : List ℕ) (last : ℕ) → Writes (write_runs (runs_of (slice l.start l.end l.targets))) l.out out' l.next last
-    → Writes (write_runs (runs_of (slice l.from l.end l.targets))) l.initial.out out' l.at last)
+    (l.start ≤ length l.row) × (length l.out ≡ length l.initial.out)
+    × (l.next + length (write_runs (runs_of (slice l.start (length l.row) l.row))) ≤ length l.out)
+    × ((out' : List ℕ) (last : ℕ) → Writes (write_runs (runs_of (slice l.start (length l.row) l.row))) l.out out' l.next last
+    → Writes (write_runs (runs_of l.row)) l.initial.out out' l.at last)
 
 abbrev pub decreases-loop-start : goal.decreases-loop-start
-decreases-loop-start l = l.end - l.start
+decreases-loop-start l = length l.row - l.start

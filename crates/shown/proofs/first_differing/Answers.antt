@@ -15,7 +15,7 @@ use Rattle.shown.proofs.first_differing.Goals as goal
 
 pub loop-k-init : goal.loop-k-init
 loop-k-init c =
-    (omega arith, left_first c.args.cells.now c.args.n c.args.count c.args.labels.now)
+    left_first c.args.cells.now c.args.n c.args.count c.args.labels.now
 
 pub load-requires : goal.load-requires
 load-requires c =
@@ -24,9 +24,6 @@ load-requires c =
 pub label_of-by_book-requires : goal.label_of-by_book-requires
 label_of-by_book-requires c =
     record { reads = rw c.load.ensures (c.requires.reads c.loop-k.k (omega arith)); from_le_to = omega arith }
-
-pub overflow_add-k : goal.overflow_add-k
-overflow_add-k c = omega (arith, c.requires.few)
 
 pub offset_bounds-cells-k : goal.offset_bounds-cells-k
 offset_bounds-cells-k c = omega (arith, c.requires.few)
@@ -45,14 +42,14 @@ pub returns-then-by_book-by_table : goal.returns-then-by_book-by_table
 returns-then-by_book-by_table c =
     let by_book : (c.label_of-by_book.result ≡ label (vector_of c.args.cells.now c.args.n (numbers_at c.args.cells.now c.loop-k.k))) = c.label_of-by_book.ensures ∙ ap (λ (v : List ℕ). label (vector_of c.args.cells.now c.args.n v)) c.load.ensures in
     let by_table : (get_or c.args.labels.now c.state_of-state.result 0 ≡ get_or c.args.labels.now (state_of (get_or c.args.cells.now (sheets_at + c.loop-k.k) 0)) 0) = ap (λ (q : ℕ). get_or c.args.labels.now q 0) c.state_of-state.ensures in
-    left_found c.args.cells.now c.args.n c.args.count c.args.labels.now c.loop-k.k (omega arith) c.loop-k.invariant.1 _ by_book _ by_table c.if-by_book-by_table.true
+    left_found c.args.cells.now c.args.n c.args.count c.args.labels.now c.loop-k.k (omega arith) c.loop-k.invariant _ by_book _ by_table c.if-by_book-by_table.true
 
 pub loop-k-preserved : goal.loop-k-preserved
 loop-k-preserved c =
     let by_book : (c.label_of-by_book.result ≡ label (vector_of c.args.cells.now c.args.n (numbers_at c.args.cells.now c.loop-k.k))) = c.label_of-by_book.ensures ∙ ap (λ (v : List ℕ). label (vector_of c.args.cells.now c.args.n v)) c.load.ensures in
     let by_table : (get_or c.args.labels.now c.state_of-state.result 0 ≡ get_or c.args.labels.now (state_of (get_or c.args.cells.now (sheets_at + c.loop-k.k) 0)) 0) = ap (λ (q : ℕ). get_or c.args.labels.now q 0) c.state_of-state.ensures in
-    (omega arith, left_next c.args.cells.now c.args.n c.args.count c.args.labels.now c.loop-k.k (omega arith) c.loop-k.invariant.1 _ by_book _ by_table c.if-by_book-by_table.false)
+    left_next c.args.cells.now c.args.n c.args.count c.args.labels.now c.loop-k.k (omega arith) c.loop-k.invariant _ by_book _ by_table c.if-by_book-by_table.false
 
 pub returns : goal.returns
 returns c =
-    left_none c.args.cells.now c.args.n c.args.count c.args.labels.now c.loop-k.k (omega arith) c.loop-k.invariant.1
+    left_none c.args.cells.now c.args.n c.args.count c.args.labels.now c.loop-k.k (omega arith) c.loop-k.invariant

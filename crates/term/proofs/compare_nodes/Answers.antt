@@ -1,34 +1,38 @@
 -- `term::compare_nodes` meets its contract: one law of the order a return, over what the two nodes told.
 -- Assumes nothing.
+use Prim.Native.Nat.{ℕ, compare}
 use native.Mathlib.Omega.{arith}
 use mathlib.Core.Path.{◌≡◌, sym, ◌∙◌}
-use Rattle.term.specs.Nodes.{kind_of, Found}
+use Rattle.std.proofs.Common.{Ordering, nat_cmp}
+use Rattle.term.specs.Nodes.{kind_of, ordering, Found}
 use Rattle.term.specs.CellLaws.{found}
-use Rattle.term.specs.ReadLaws.{order_one, order_less, order_more, order_leaf}
-use Rattle.term.specs.CompareLaws.{only, both}
+use Rattle.term.specs.ReadLaws.{order_one, order_leaf}
+use Rattle.term.specs.CompareLaws.{ordering_number, ordering_decides, kinds_apart, kinds_same, only, both}
 use Rattle.term.proofs.compare_nodes.Goals as goal
 
 pub returns-then-i-j : goal.returns-then-i-j
 returns-then-i-j c = record { shown = sym (order_one _ _ _ c.if-i-j.true) }
 
-pub returns-then-kind-other : goal.returns-then-kind-other
-returns-then-kind-other c =
-    let x : Found c.args.cells.now c.args.i c.node_at-x.result = found _ _ _ _ c.requires.sound (omega arith) c.node_at-x.ensures in
-    let y : Found c.args.cells.now c.args.j c.node_at-y.result = found _ _ _ _ c.requires.sound_2 (omega arith) c.node_at-y.ensures in
-    record { shown = sym (order_less x y (omega (arith, c.kind_of-kind.ensures, c.kind_of-other.ensures))) }
+-- the kinds as the code compares them
+told : {k l m n : ℕ} {o : Ordering} → o ≡ nat_cmp k l → k ≡ m → l ≡ n → ordering o ≡ compare m n
+told {k} {l} e p q = rw (e, ordering_number k l, p, q)
 
-pub returns-then-other-kind : goal.returns-then-other-kind
-returns-then-other-kind c =
+pub returns-then-is_ne : goal.returns-then-is_ne
+returns-then-is_ne c =
     let x : Found c.args.cells.now c.args.i c.node_at-x.result = found _ _ _ _ c.requires.sound (omega arith) c.node_at-x.ensures in
     let y : Found c.args.cells.now c.args.j c.node_at-y.result = found _ _ _ _ c.requires.sound_2 (omega arith) c.node_at-y.ensures in
-    record { shown = sym (order_more x y (omega (arith, c.kind_of-kind.ensures, c.kind_of-other.ensures))) }
+    record {
+      shown = kinds_apart x y (told c.cmp-kinds.ensures c.kind_of.ensures c.kind_of-2.ensures)
+          (sym (ordering_decides c.cmp-kinds.result) ∙ sym c.is_ne.ensures ∙ c.if-is_ne.true);
+    }
 
 pub returns-then-children-eq0 : goal.returns-then-children-eq0
 returns-then-children-eq0 c =
     let x : Found c.args.cells.now c.args.i c.node_at-x.result = found _ _ _ _ c.requires.sound (omega arith) c.node_at-x.ensures in
     let y : Found c.args.cells.now c.args.j c.node_at-y.result = found _ _ _ _ c.requires.sound_2 (omega arith) c.node_at-y.ensures in
-    let same : kind_of c.node_at-x.result
-    ≡ kind_of c.node_at-y.result = omega (arith, c.kind_of-kind.ensures, c.kind_of-other.ensures) in
+    let same : kind_of c.node_at-x.result ≡ kind_of c.node_at-y.result =
+    kinds_same (told c.cmp-kinds.ensures c.kind_of.ensures c.kind_of-2.ensures)
+    (sym (ordering_decides c.cmp-kinds.result) ∙ sym c.is_ne.ensures ∙ c.if-is_ne.false) in
     record {
       shown = c.compare_pairs.ensures ∙ sym (order_leaf x y same
           (sym c.arity-children.ensures ∙ c.if-children-eq0.true) c.first_of.ensures
@@ -39,8 +43,9 @@ pub returns-then-children-eq1 : goal.returns-then-children-eq1
 returns-then-children-eq1 c =
     let x : Found c.args.cells.now c.args.i c.node_at-x.result = found _ _ _ _ c.requires.sound (omega arith) c.node_at-x.ensures in
     let y : Found c.args.cells.now c.args.j c.node_at-y.result = found _ _ _ _ c.requires.sound_2 (omega arith) c.node_at-y.ensures in
-    let same : kind_of c.node_at-x.result
-    ≡ kind_of c.node_at-y.result = omega (arith, c.kind_of-kind.ensures, c.kind_of-other.ensures) in
+    let same : kind_of c.node_at-x.result ≡ kind_of c.node_at-y.result =
+    kinds_same (told c.cmp-kinds.ensures c.kind_of.ensures c.kind_of-2.ensures)
+    (sym (ordering_decides c.cmp-kinds.result) ∙ sym c.is_ne.ensures ∙ c.if-is_ne.false) in
     record {
       shown = only x y same (sym c.arity-children.ensures ∙ c.if-children-eq1.true)
           c.first_of-then-children-eq1.ensures c.first_of-then-children-eq1-2.ensures;
@@ -50,8 +55,9 @@ pub returns : goal.returns
 returns c =
     let x : Found c.args.cells.now c.args.i c.node_at-x.result = found _ _ _ _ c.requires.sound (omega arith) c.node_at-x.ensures in
     let y : Found c.args.cells.now c.args.j c.node_at-y.result = found _ _ _ _ c.requires.sound_2 (omega arith) c.node_at-y.ensures in
-    let same : kind_of c.node_at-x.result
-    ≡ kind_of c.node_at-y.result = omega (arith, c.kind_of-kind.ensures, c.kind_of-other.ensures) in
+    let same : kind_of c.node_at-x.result ≡ kind_of c.node_at-y.result =
+    kinds_same (told c.cmp-kinds.ensures c.kind_of.ensures c.kind_of-2.ensures)
+    (sym (ordering_decides c.cmp-kinds.result) ∙ sym c.is_ne.ensures ∙ c.if-is_ne.false) in
     record {
       shown = both x y same (λ z. c.if-children-eq0.false (c.arity-children.ensures ∙ z))
           (λ z. c.if-children-eq1.false (c.arity-children.ensures ∙ z)) c.first_of-2.ensures

@@ -1,5 +1,5 @@
 -- `turns::put_words` meets its contract: each turn puts the line of one record, and those of the others are left.
--- The measure is how many records are left. Assumes nothing.
+-- Assumes nothing.
 use Prim.Native.Nat.{◌-◌, ◌*◌, ◌≤◌}
 use mathlib.Core.Path.{◌≡◌}
 use lib.ListN.{length, drop}
@@ -11,8 +11,5 @@ use Rattle.turns.proofs.put_words.Given as goal
 
 abbrev pub invariant-loop-k : goal.invariant-loop-k
 invariant-loop-k l =
-    (l.k ≤ l.count) × (length l.out ≡ length l.initial.out) × (l.end ≤ line_room * l.k)
+    (length l.out ≡ length l.initial.out) × (l.end ≤ line_room * l.k)
     × Leads (cell_lines (kind_by l.kinds) l.records l.count) l.initial.out 0 (cell_lines (kind_by l.kinds) (drop (record_cells * l.k) l.records) (l.count - l.k)) l.out l.end
-
-abbrev pub decreases-loop-k : goal.decreases-loop-k
-decreases-loop-k l = l.count - l.k

@@ -21,24 +21,24 @@ pub derive-requires : goal.derive-requires
 derive-requires c =
     place_derives c.requires c.loop-i.invariant.1 (omega arith)
 
-pub returns-in_default : goal.returns-in_default
-returns-in_default c =
-    record {
-      spared = place_spared c.requires c.loop-i.invariant.1 (omega arith) c.derive.ensures c.in_default.is;
-      too_long = place_long c.requires c.loop-i.invariant.1 (omega arith) c.derive.ensures c.in_default.is;
+pub returns-in_err-made : goal.returns-in_err-made
+returns-in_err-made c =
+    rw c.from_residual.ensures (record {
+      spared = place_spared c.requires c.loop-i.invariant.1 (omega arith) c.derive.ensures c.in_err-made.was;
+      too_long = place_long c.requires c.loop-i.invariant.1 (omega arith) c.derive.ensures c.in_err-made.was;
       done = tt;
       indexed = tt;
-    }
+    })
 
 pub put_term-placed-requires : goal.put_term-placed-requires
 put_term-placed-requires c =
-    let p = place_puts c.requires c.loop-i.invariant.1 (omega arith) (got c.derive.ensures c.in-Term.is) in
+    let p = place_puts c.requires c.loop-i.invariant.1 (omega arith) (got c.derive.ensures c.in_ok-made.was) in
     record { fact = p.ready; sound = p.sound; i_bound = p.small }
 
 pub loop-i-preserved : goal.loop-i-preserved
 loop-i-preserved c = (
   search steps,
-  place_more c.requires c.loop-i.invariant.1 (omega arith) (got c.derive.ensures c.in-Term.is)
+  place_more c.requires c.loop-i.invariant.1 (omega arith) (got c.derive.ensures c.in_ok-made.was)
       c.put_term-placed.ensures,
 )
 
