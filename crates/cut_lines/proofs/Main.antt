@@ -1,13 +1,12 @@
 -- The theorems of cut_lines that are bought: what its promises say of the buffer, as equations between lists of bytes.
 -- To believe them, read the definitions: Rest and Parts here, cut_print in programs, and those that they stand on.
-use Rattle.std.specs.Prelude.{ℕ, ◌≡◌, List, ◌++◌, take, drop}
+use Rattle.std.specs.Prelude.{ℕ, ◌≡◌, Ok, Err, List, ◌++◌, take, drop}
 use Rattle.std.proofs.Common.{arith, sym, ap, ◌∙◌, append-nil}
 use Rattle.number.specs.Lists.{past_written}
 use Rattle.meaning.specs.Re.{Text}
 use Rattle.programs.specs.Print.{cut_print}
 use Rattle.turns.specs.declared.Turn.TheVariants.{Onward, Last}
 use Rattle.turns.specs.Turned.{kind_by}
-use Rattle.cut_lines.specs.declared.Begun.TheVariants.{Told, States}
 use Rattle.cut_lines.specs.Rest.{rest_lines}
 use Rattle.cut_lines.specs.Parts.{Part, Begins, Goes}
 use Rattle.cut_lines.proofs.PartLaws.{part_front, part_none}
@@ -21,11 +20,11 @@ the_part {o = o} {rest = rest} part = (
 
 module _ (book : List ℕ) (text : Text) (labels targets kinds o o' : List ℕ) where
   -- a refusal's line is all that is printed
-  pub the_refusal_alone : (end : ℕ) → Begins book text labels targets kinds o o' (Told end) → take end o' ≡ cut_print book text
+  pub the_refusal_alone : (end : ℕ) → Begins book text labels targets kinds o o' (Err (record { end = end })) → take end o' ≡ cut_print book text
   the_refusal_alone end begun = sym ((the_part begun.part).0 ∙ append-nil (take end o'))
 
   -- where the table was built, the lines of the text from its start on are all that is printed
-  pub the_lines_follow : (n : ℕ) → Begins book text labels targets kinds o o' (States n)
+  pub the_lines_follow : (n : ℕ) → Begins book text labels targets kinds o o' (Ok n)
       → rest_lines (kind_by kinds) n labels targets text 0 0 ≡ cut_print book text
   the_lines_follow n begun = part_none begun.part
 

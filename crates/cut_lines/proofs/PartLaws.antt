@@ -1,6 +1,6 @@
 -- Laws of the parts: one for each way that the beginning returns, and what a turn puts by what it promises.
 -- And something is always still to be printed: the text's last line, or a refusal.
-use Rattle.std.specs.Prelude.{ℕ, ◌+◌, ◌<◌, ◌≤◌, ◌≡◌, refl, Bool, true, false, cond, List, [], ◌∷◌, ◌++◌, ltb, length, take, drop}
+use Rattle.std.specs.Prelude.{ℕ, ◌+◌, ◌<◌, ◌≤◌, ◌≡◌, refl, Ok, Err, Bool, true, false, cond, List, [], ◌∷◌, ◌++◌, ltb, length, take, drop}
 use Rattle.std.proofs.Common.{arith, sym, ap, ◌∙◌, append-nil, length-append, length-drop}
 use Rattle.number.specs.declared.Refusal.{Refusal}
 use Rattle.number.specs.declared.Refusal.TheVariants.{Input, Loaded}
@@ -25,7 +25,7 @@ use Rattle.turns.specs.declared.Turn.{Turn}
 use Rattle.turns.specs.declared.Turn.TheVariants.{Onward, Last}
 use Rattle.turns.specs.Turned.{Kinds, turn_of, turn_lines, Turned}
 use Rattle.turns.specs.TurnedLaws.{kinds_all}
-use Rattle.cut_lines.specs.declared.Begun.TheVariants.{Told, States}
+use Rattle.cut_lines.specs.declared.Told.{Told}
 use Rattle.cut_lines.specs.Rest.{rest_lines}
 use Rattle.cut_lines.specs.Parts.{Part, Begins, Goes}
 use Rattle.cut_lines.specs.RestLaws.{turn_last, turn_on, cut_built_lem}
@@ -48,15 +48,15 @@ part_none {whole} {o} {o'} {rest} part = go part.put part.stands.place part.make
 -- ---- the beginning
 
 module _ (book : List ℕ) (text : Text) {labels targets kinds o : List ℕ} where
-  pub begins_told : {o' : List ℕ} (r : Refusal) (end : ℕ) → refused_line r ≡ cut_print book text → Writes (refused_line r) o o' 0 end → end ≤ length o'
-      → Begins book text labels targets kinds o o' (Told end)
-  begins_told r end e put fits = record {
+  pub begins_told : {o' : List ℕ} (r : Refusal) (told : Told) → refused_line r ≡ cut_print book text → Writes (refused_line r) o o' 0 told.end
+      → told.end ≤ length o' → Begins book text labels targets kinds o o' (Err told)
+  begins_told r told e put fits = record {
     part = record { put = refused_line r; stands = put; inside = fits; makes = sym e ∙ sym (append-nil (refused_line r)) };
     sized = tt;
   }
 
   pub begins_states : (n : ℕ) → length book ≤ book_file → length text ≤ text_file → Built (build_book book) n labels targets
-      → rules ≤ length kinds → Kinds book kinds → Begins book text labels targets kinds o o (States n)
+      → rules ≤ length kinds → Kinds book kinds → Begins book text labels targets kinds o o (Ok n)
   begins_states n small short built all known = record {
     part = record {
       put = [];

@@ -1,6 +1,6 @@
 -- What is printed part by part in one buffer: a part stands at its front, and the answer tells what is still to be printed.
 -- A part and what is still to be printed after it make up what was to be printed before it.
-use Rattle.std.specs.Prelude.{ℕ, ◌+◌, ◌<◌, ◌≤◌, ◌≡◌, List, [], ◌++◌, length}
+use Rattle.std.specs.Prelude.{ℕ, ◌+◌, ◌<◌, ◌≤◌, ◌≡◌, Result, Ok, Err, List, [], ◌++◌, length}
 use Rattle.number.specs.Limits.{text_file}
 use Rattle.number.specs.Lists.{Writes}
 use Rattle.meaning.specs.Re.{Text}
@@ -8,8 +8,7 @@ use Rattle.programs.specs.Print.{cut_print}
 use Rattle.turns.specs.declared.Turn.{Turn}
 use Rattle.turns.specs.declared.Turn.TheVariants.{Onward, Last}
 use Rattle.turns.specs.Turned.{kind_by, end_of}
-use Rattle.cut_lines.specs.declared.Begun.{Begun}
-use Rattle.cut_lines.specs.declared.Begun.TheVariants.{Told, States}
+use Rattle.cut_lines.specs.declared.Told.{Told}
 use Rattle.cut_lines.specs.Rest.{rest_lines}
 
 -- some bytes stand at the front of the buffer up to `end`, o before and o' now, as it was behind them; they and then the rest make up the whole
@@ -22,20 +21,20 @@ pub record Part (whole o o' : List ℕ) (end : ℕ) (rest : List ℕ) : Type 0 w
 -- ---- the beginning
 
 -- a refusal's line stands in the buffer, and nothing follows; else nothing stands there, and all lines of the text follow
-abbrev pub begun_end : Begun → ℕ
-begun_end (Told end) = end
-begun_end (States n) = 0
+abbrev pub begun_end : Result ℕ Told → ℕ
+begun_end (Err told) = told.end
+begun_end (Ok n) = 0
 
-abbrev pub after_begun : List ℕ → List ℕ → List ℕ → Text → Begun → List ℕ
-after_begun labels targets kinds text (Told end) = []
-after_begun labels targets kinds text (States n) = rest_lines (kind_by kinds) n labels targets text 0 0
+abbrev pub after_begun : List ℕ → List ℕ → List ℕ → Text → Result ℕ Told → List ℕ
+after_begun labels targets kinds text (Err told) = []
+after_begun labels targets kinds text (Ok n) = rest_lines (kind_by kinds) n labels targets text 0 0
 
 -- a text that is cut is not over its size
-abbrev pub Sized : Text → Begun → Type 0
-Sized text (Told end) = Unit {0}
-Sized text (States n) = length text ≤ text_file
+abbrev pub Sized : Text → Result ℕ Told → Type 0
+Sized text (Err told) = Unit {0}
+Sized text (Ok n) = length text ≤ text_file
 
-pub record Begins (book : List ℕ) (text : Text) (labels targets kinds o o' : List ℕ) (r : Begun) : Type 0 where
+pub record Begins (book : List ℕ) (text : Text) (labels targets kinds o o' : List ℕ) (r : Result ℕ Told) : Type 0 where
   pub part : Part (cut_print book text) o o' (begun_end r) (after_begun labels targets kinds text r)
   pub sized : Sized text r
 

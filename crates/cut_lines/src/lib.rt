@@ -4,9 +4,10 @@
 
 ghost use Rattle.std.specs.Prelude.{◌+◌, ◌-◌, ◌*◌, ◌/◌, ◌^◌, ◌<◌, ◌≤◌, length};
 ghost use Rattle.number.specs.Limits.{rules, states, table_cells};
+ghost use Rattle.number.specs.Lists.{Writes};
 ghost use Rattle.cutting.specs.Flat.{record_cells};
 ghost use Rattle.vector.specs.Layout.{work_length};
-ghost use Rattle.lines.specs.Lines.{line_room};
+ghost use Rattle.lines.specs.Lines.{line_room, refused_line};
 ghost use Rattle.turns.specs.Turned.{kind_by, turn_of, Turned};
 ghost use Rattle.cut_lines.specs.Parts.{Begins, Goes};
 
@@ -14,7 +15,6 @@ use cutting::RECORD_CELLS;
 use lines::LINE_ROOM;
 use number::Refusal;
 use number::limits::{BOOK_FILE, TEXT_FILE};
-use table::Counted;
 use turns::Turn;
 
 // The words of one turn, the cells of their records, and the room for a line for each of them and a last one.
@@ -24,14 +24,24 @@ pub const TURN_CELLS: usize = RECORD_CELLS * TURN_WORDS;
 
 pub const CUT_ROOM: usize = LINE_ROOM * (TURN_WORDS + 1);
 
-// How it begins: a refusal's line stands in the buffer and ends there, or a table of so many states was built.
-#[derive(Clone, Copy)]
-pub enum Begun {
-    Told(usize),
-    States(usize),
+// A refusal is all that is printed: its line stands in the buffer, and where it ends.
+#[derive(Clone, Copy, PartialEq, Eq)]
+pub struct Told {
+    pub end: usize,
 }
 
-// Builds the table of the book, and looks up the kinds of its rules. Files that are missing or too long, which more bytes than a file may have
+// A refusal's line, at the front of the buffer.
+fn tell(r: Refusal, out: &mut [u8]) -> Told
+    requires { line_room ≤ length out.old }
+    ensures line { Writes (refused_line r) out.old out.new 0 result.end }
+    ensures within { result.end ≤ length out.new }
+{
+    Told {
+        end: lines::put_refused(r, out, 0),
+    }
+}
+
+// Builds the table of the book, looks up the kinds of its rules, and answers how many states there are. Files that are missing or too long, which more bytes than a file may have
 // stand for, are told before the book is looked at.
 pub fn begin<'a>(
     book: &'a [u8],
@@ -41,7 +51,7 @@ pub fn begin<'a>(
     work: &mut [u64],
     kinds: &mut [usize],
     out: &mut [u8],
-) -> Begun
+) -> Result<usize, Told>
     requires states_in_bounds { states ≤ length labels.old }
     requires table_cells_in_bounds { table_cells ≤ length targets.old }
     requires work_length_in_bounds { work_length ≤ length work.old }
@@ -51,16 +61,16 @@ pub fn begin<'a>(
         out.old out.new result }
 {
     if BOOK_FILE < book.len() {
-        return Begun::Told(lines::put_refused(Refusal::Input, out, 0));
+        return Err(tell(Refusal::Input, out));
     }
     if TEXT_FILE < text.len() {
-        return Begun::Told(lines::put_refused(Refusal::Input, out, 0));
+        return Err(tell(Refusal::Input, out));
     }
     match building::build(book, labels, targets, work) {
-        Counted::Refused(r) => Begun::Told(lines::put_refused(r, out, 0)),
-        Counted::States(count) => {
+        Err(r) => Err(tell(r, out)),
+        Ok(count) => {
             turns::look_up(book, kinds);
-            Begun::States(count)
+            Ok(count)
         }
     }
 }

@@ -1,6 +1,6 @@
 -- Tables in memory: what build or load left in a table area is the table of the definitions.
 -- The three programs' code builds or loads, and then goes by one of these laws.
-use Rattle.std.specs.Prelude.{ℕ, ◌≤◌, ◌≡◌, refl, true, List, length}
+use Rattle.std.specs.Prelude.{ℕ, ◌≤◌, ◌≡◌, refl, true, Result, Ok, Err, List, length}
 use Rattle.std.proofs.Common.{arith, sym, ap, subst, ◌∙◌, le-ltb}
 use Rattle.number.specs.declared.Refusal.{Refusal}
 use Rattle.number.specs.Limits.{states, table_cells}
@@ -8,8 +8,6 @@ use Rattle.number.specs.Numbers.{Bytes}
 use Rattle.number.specs.Refused.{Answer, Outcome}
 use Rattle.number.specs.Refused.Answer.{got, refused}
 use Rattle.number.specs.Refused.Outcome.{gives, refuses}
-use Rattle.table.specs.declared.Counted.{Counted}
-use Rattle.table.specs.declared.Counted.TheVariants.{States, Refused}
 use Rattle.table.specs.Table.{Table, lent, well_formed}
 use Rattle.table.specs.Formed.{Formed}
 use Rattle.table.specs.Sheet.{read_sheet}
@@ -54,14 +52,14 @@ module _ (file l t s : List ℕ) (few : states ≤ length l) (wide : table_cells
   as_built : (build_of file l t s).table ≡ filled_by l t (build_book file)
   as_built = rw (le-ltb (length l) states few, le-ltb (length t) table_cells wide, le-ltb (length s) work_length long) refl
 
-  pub build_refused : (y : Counted) (r : Refusal) → y ≡ Refused r → Builds file l t s l' t' s' y → build_book file ≡ refuses r
+  pub build_refused : (y : Result ℕ Refusal) (r : Refusal) → y ≡ Err r → Builds file l t s l' t' s' y → build_book file ≡ refuses r
   build_refused y r f b = go (build_book file) (sym (ap counted f) ∙ b.answer ∙ ap (λ (x : Filled). x.answer) as_built)
     where
       go : (x : Outcome Table) → refuses r ≡ (filled_by l t x).answer → x ≡ refuses r
       go (gives u) e = absurd (no_count e)
       go (refuses q) e = ap refuses (sym (same_refusal e))
 
-  pub build_gave : (y : Counted) (n : ℕ) → y ≡ States n → Builds file l t s l' t' s' y → Built (build_book file) n l' t'
+  pub build_gave : (y : Result ℕ Refusal) (n : ℕ) → y ≡ Ok n → Builds file l t s l' t' s' y → Built (build_book file) n l' t'
   build_gave y n f b =
       go (build_book file) refl (sym (ap counted f) ∙ b.answer ∙ ap (λ (x : Filled). x.answer) as_built)
       (b.labels ∙ ap (λ (x : Filled). x.labels) as_built) (b.targets ∙ ap (λ (x : Filled). x.targets) as_built)
@@ -85,14 +83,14 @@ module _ (file l t : List ℕ) (few : states ≤ length l) (wide : table_cells �
   as_read : load_of file l t ≡ load_read l t (read_sheet file)
   as_read = rw (le-ltb (length l) states few, le-ltb (length t) table_cells wide) refl
 
-  pub load_refused : (y : Counted) (r : Refusal) → y ≡ Refused r → Loads file l t l' t' y → read_sheet file ≡ refused r
+  pub load_refused : (y : Result ℕ Refusal) (r : Refusal) → y ≡ Err r → Loads file l t l' t' y → read_sheet file ≡ refused r
   load_refused y r f b = go (read_sheet file) (sym (ap counted f) ∙ b.answer ∙ ap (λ (x : Filled). x.answer) as_read)
     where
       go : (x : Answer Table) → refuses r ≡ (load_read l t x).answer → x ≡ refused r
       go (got u after) e = absurd (no_count e)
       go (refused q) e = ap refused (sym (same_refusal e))
 
-  pub load_gave : Bytes file → (y : Counted) (n : ℕ) → y ≡ States n → Loads file l t l' t' y → Read (read_sheet file) n l' t'
+  pub load_gave : Bytes file → (y : Result ℕ Refusal) (n : ℕ) → y ≡ Ok n → Loads file l t l' t' y → Read (read_sheet file) n l' t'
   load_gave all y n f b =
       go (read_sheet file) refl (sym (ap counted f) ∙ b.answer ∙ ap (λ (x : Filled). x.answer) as_read)
       (b.labels ∙ ap (λ (x : Filled). x.labels) as_read) (b.targets ∙ ap (λ (x : Filled). x.targets) as_read)

@@ -1,12 +1,10 @@
--- `sheet_bytes::sheet_bytes` meets its contract: Input for the book, else what it builds.
+-- `sheet_bytes::sheet_bytes` meets its contract: the sheet that was made, or the line of its refusal.
 -- Assumes nothing.
-use mathlib.Core.Path.{sym}
-use Rattle.programs.specs.PrintLaws.{sheet_no_book, sheet_whole}
-use Rattle.sheet_bytes.specs.PutLaws.{puts_as}
+use native.Mathlib.Omega.{arith}
+use Rattle.sheet_bytes.specs.PutLaws.{puts_line}
 use Rattle.sheet_bytes.proofs.sheet_bytes.Goals as goal
 
-pub returns-then-book-gt-BOOK_FILE : goal.returns-then-book-gt-BOOK_FILE
-returns-then-book-gt-BOOK_FILE c = puts_as (sheet_no_book c.args.book.now c.if-book-gt-BOOK_FILE.true) c.refused.ensures
-
-pub returns : goal.returns
-returns c = puts_as (sym (sheet_whole c.args.book.now c.if-book-gt-BOOK_FILE.false)) c.sheet_in.ensures
+pub returns-in-Err : goal.returns-in-Err
+returns-in-Err c =
+    puts_line _ _ c.in-Err.ensures.0 (rw c.in-Err.ensures.1 at c.put_refused-end.ensures.writes)
+    (omega (arith, c.put_refused-end.ensures.upper_bound, c.put_refused-end.auto.out, c.sheet.auto.out, c.requires))
