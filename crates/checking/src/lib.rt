@@ -58,6 +58,7 @@ pub fn check_nodes(
 
 // The rules of a book, so many: how many nodes they have, and the place after them.
 // The sum is tested as each count is read, before the nodes are, and refused at that count.
+// Kept apart from places::read_head, which reads the same two fields: the count's own place is needed here.
 fn check_rules(
     book: &[u8],
     at: usize,
