@@ -45,6 +45,7 @@ fn text_length(cells: &[u64], k: usize) -> usize
 {
     let mut item = k;
     let mut len: usize = 0;
+    // Kept as a `while`: it goes back from item to item by their parents, and no index is counted.
     while 0 < item {
         item = cells[PARENTS_AT + item] as usize;
         len += 1;
@@ -62,6 +63,7 @@ fn write_text(cells: &[u64], k: usize, area: &mut [u8]) -> usize
     let len = text_length(cells, k);
     let mut item = k;
     let mut left = len;
+    // Kept as a `while`: from item to item, as above.
     while 0 < item {
         left -= 1;
         area[left] = cells[BYTES_AT + item] as u8;
