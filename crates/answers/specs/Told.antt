@@ -1,119 +1,102 @@
--- The code's answers are told in full: two that mean the same on paper are the same value.
--- One law for each enum that a public call answers with.
-use Rattle.std.specs.Prelude.{ℕ, ◌≡◌, refl}
-use Rattle.std.proofs.Common.{ap, arith}
-use Rattle.number.specs.declared.Taken.{Taken}
-use Rattle.number.specs.declared.Taken.TheVariants.{Value, Refused as Taken·refused}
+-- The code's answers are told in full: two that mean the same on paper are the same value, since each is read back from what it means.
+-- One lemma says so for all of them; each answer of a public call shows how it is read back.
+use Rattle.std.specs.Prelude.{ℕ, ◌≡◌, refl, Option, None, Some, Result, Ok, Err}
+use Rattle.std.proofs.Common.{sym, ap, ◌∙◌}
+use Rattle.number.specs.declared.Refusal.{Refusal}
 use Rattle.number.specs.Numbers.{taken}
-use Rattle.number.specs.Refused.{Outcome}
+use Rattle.number.specs.Refused.{Answer, Outcome}
+use Rattle.number.specs.Refused.Answer.{got, refused}
 use Rattle.number.specs.Refused.Outcome.{gives, refuses}
-use Rattle.book.specs.declared.Checked.{Checked}
-use Rattle.book.specs.declared.Checked.TheVariants.{Counts, Refused as Checked·refused}
-use Rattle.book.specs.declared.RuleKind.{RuleKind}
-use Rattle.book.specs.declared.RuleKind.TheVariants.{Kind, NoRule, Unknown}
-use Rattle.book.specs.Calls.{Size, checked, kind_told}
-use Rattle.table.specs.declared.Counted.{Counted}
-use Rattle.table.specs.declared.Counted.TheVariants.{States, Refused as Counted·refused}
-use Rattle.table.specs.declared.Written.{Written}
-use Rattle.table.specs.declared.Written.TheVariants.{Bytes, Unwritten}
+use Rattle.book.specs.Calls.{Size, Told, checked, kind_told}
+use Rattle.book.specs.Calls.Told.{kind, none}
 use Rattle.table.specs.Calls.{counted, wrote}
 use Rattle.cutting.specs.declared.Ended.{Ended}
-use Rattle.cutting.specs.declared.Ended.TheVariants.{Done, Stuck, Full, Refused as Ended·refused}
+use Rattle.cutting.specs.declared.Ended.TheVariants.{Done, Stuck, Full}
 use Rattle.cutting.specs.Cut.{Ending}
-use Rattle.cutting.specs.Cut.Ending.{Done as Ending·done}
+use Rattle.cutting.specs.Cut.Ending.{Done as Ending·done, StuckAt, FullAt}
 use Rattle.cutting.specs.Calls.{Report, ended}
-use Rattle.verdict.specs.declared.Compared.{Compared}
-use Rattle.verdict.specs.declared.Compared.TheVariants.{Same, Differs, Refused as Compared·refused}
-use Rattle.verdict.specs.Calls.{compared}
+use Rattle.verdict.specs.declared.Difference.{Difference}
+use Rattle.verdict.specs.Calls.{compared, Told as Compared·told}
+use Rattle.verdict.specs.Calls.Told.{same, differs}
 
-pub taken_one : (x y : Taken) → taken x ≡ taken y → x ≡ y
-taken_one (Value a b) (Value c d) e = cc
-taken_one (Value a b) (Taken·refused r) e = absurd (let z : ◌≡◌ {A = ℕ} 0 1 = cc in omega arith)
-taken_one (Taken·refused r) (Value c d) e = absurd (let z : ◌≡◌ {A = ℕ} 0 1 = cc in omega arith)
-taken_one (Taken·refused r) (Taken·refused s) e = cc
+-- what is read back from its meaning is told in full by it
+pub told_in_full : {X Y : Type 0} (told : X → Y) (back : Y → X) → ((x : X) → back (told x) ≡ x) → (x y : X) → told x ≡ told y → x ≡ y
+told_in_full told back whole x y e = sym (whole x) ∙ ap back e ∙ whole y
 
-pub counted_one : (x y : Counted) → counted x ≡ counted y → x ≡ y
-counted_one (States a) (States b) e = cc
-counted_one (States a) (Counted·refused r) e = absurd (let z : ◌≡◌ {A = ℕ} 0 1 = cc in omega arith)
-counted_one (Counted·refused r) (States b) e = absurd (let z : ◌≡◌ {A = ℕ} 0 1 = cc in omega arith)
-counted_one (Counted·refused r) (Counted·refused s) e = cc
+-- a reader's answer
+abbrev taken_back : Answer ℕ → Result (ℕ × ℕ) Refusal
+taken_back (got n next) = Ok (n, next)
+taken_back (refused r) = Err r
 
-pub wrote_one : (x y : Written) → wrote x ≡ wrote y → x ≡ y
-wrote_one (Bytes a) (Bytes b) e = cc
-wrote_one (Bytes a) (Unwritten r) e = absurd (let z : ◌≡◌ {A = ℕ} 0 1 = cc in omega arith)
-wrote_one (Unwritten r) (Bytes b) e = absurd (let z : ◌≡◌ {A = ℕ} 0 1 = cc in omega arith)
-wrote_one (Unwritten r) (Unwritten s) e = cc
+taken_whole : (x : Result (ℕ × ℕ) Refusal) → taken_back (taken x) ≡ x
+taken_whole (Ok (n, next)) = refl
+taken_whole (Err r) = refl
 
--- what a size tells, and what a report does
-abbrev rules_told : Outcome Size → ℕ
-rules_told (gives s) = s.rules
-rules_told (refuses r) = 0
+pub taken_one : (x y : Result (ℕ × ℕ) Refusal) → taken x ≡ taken y → x ≡ y
+taken_one = told_in_full taken taken_back taken_whole
 
-abbrev nodes_told : Outcome Size → ℕ
-nodes_told (gives s) = s.nodes
-nodes_told (refuses r) = 0
+-- a call's answer, by what is read back from what it gives
+abbrev back : {A B : Type 0} → (B → A) → Outcome B → Result A Refusal
+back f (gives x) = Ok (f x)
+back f (refuses r) = Err r
 
-abbrev count_told : Outcome Report → ℕ
-count_told (gives x) = x.count
-count_told (refuses r) = 0
+counted_whole : (x : Result ℕ Refusal) → back (λ n. n) (counted x) ≡ x
+counted_whole (Ok n) = refl
+counted_whole (Err r) = refl
 
-abbrev ending_told : Outcome Report → Ending
-ending_told (gives x) = x.ending
-ending_told (refuses r) = Ending·done
+pub counted_one : (x y : Result ℕ Refusal) → counted x ≡ counted y → x ≡ y
+counted_one = told_in_full counted (back (λ n. n)) counted_whole
 
-pub checked_one : (x y : Checked) → checked x ≡ checked y → x ≡ y
-checked_one (Counts a b) (Counts c d) e =
-    let p : a ≡ c = ap rules_told e in
-    let q : b ≡ d = ap nodes_told e in
-    cc
-checked_one (Counts a b) (Checked·refused r) e = absurd (let z : ◌≡◌ {A = ℕ} 0 1 = cc in omega arith)
-checked_one (Checked·refused r) (Counts c d) e = absurd (let z : ◌≡◌ {A = ℕ} 0 1 = cc in omega arith)
-checked_one (Checked·refused r) (Checked·refused s) e = cc
+pub wrote_one : (x y : Result ℕ Refusal) → wrote x ≡ wrote y → x ≡ y
+wrote_one = counted_one
 
-pub told_one : (x y : RuleKind) → kind_told x ≡ kind_told y → x ≡ y
-told_one (Kind a) (Kind b) e = cc
-told_one (Kind a) NoRule e = absurd (let z : ◌≡◌ {A = ℕ} 0 1 = cc in omega arith)
-told_one (Kind a) (Unknown r) e = absurd (let z : ◌≡◌ {A = ℕ} 0 1 = cc in omega arith)
-told_one NoRule (Kind b) e = absurd (let z : ◌≡◌ {A = ℕ} 0 1 = cc in omega arith)
-told_one NoRule NoRule e = refl
-told_one NoRule (Unknown r) e = absurd (let z : ◌≡◌ {A = ℕ} 0 1 = cc in omega arith)
-told_one (Unknown r) (Kind b) e = absurd (let z : ◌≡◌ {A = ℕ} 0 1 = cc in omega arith)
-told_one (Unknown r) NoRule e = absurd (let z : ◌≡◌ {A = ℕ} 0 1 = cc in omega arith)
-told_one (Unknown r) (Unknown s) e = cc
+abbrev sizes : Size → ℕ × ℕ
+sizes s = (s.rules, s.nodes)
 
-pub ended_one : (x y : Ended) → ended x ≡ ended y → x ≡ y
-ended_one (Done n) (Done m) e =
-    let c : n ≡ m = ap count_told e in
-    cc
-ended_one (Done n) (Stuck m q) e = absurd (let f = ap ending_told e in let z : ◌≡◌ {A = ℕ} 0 1 = cc in omega arith)
-ended_one (Done n) (Full m q) e = absurd (let f = ap ending_told e in let z : ◌≡◌ {A = ℕ} 0 1 = cc in omega arith)
-ended_one (Done n) (Ended·refused s) e = absurd (let z : ◌≡◌ {A = ℕ} 0 1 = cc in omega arith)
-ended_one (Stuck n p) (Done m) e = absurd (let f = ap ending_told e in let z : ◌≡◌ {A = ℕ} 0 1 = cc in omega arith)
-ended_one (Stuck n p) (Stuck m q) e =
-    let c : n ≡ m = ap count_told e in
-    let f = ap ending_told e in
-    cc
-ended_one (Stuck n p) (Full m q) e = absurd (let f = ap ending_told e in let z : ◌≡◌ {A = ℕ} 0 1 = cc in omega arith)
-ended_one (Stuck n p) (Ended·refused s) e = absurd (let z : ◌≡◌ {A = ℕ} 0 1 = cc in omega arith)
-ended_one (Full n p) (Done m) e = absurd (let f = ap ending_told e in let z : ◌≡◌ {A = ℕ} 0 1 = cc in omega arith)
-ended_one (Full n p) (Stuck m q) e = absurd (let f = ap ending_told e in let z : ◌≡◌ {A = ℕ} 0 1 = cc in omega arith)
-ended_one (Full n p) (Full m q) e =
-    let c : n ≡ m = ap count_told e in
-    let f = ap ending_told e in
-    cc
-ended_one (Full n p) (Ended·refused s) e = absurd (let z : ◌≡◌ {A = ℕ} 0 1 = cc in omega arith)
-ended_one (Ended·refused r) (Done m) e = absurd (let z : ◌≡◌ {A = ℕ} 0 1 = cc in omega arith)
-ended_one (Ended·refused r) (Stuck m q) e = absurd (let z : ◌≡◌ {A = ℕ} 0 1 = cc in omega arith)
-ended_one (Ended·refused r) (Full m q) e = absurd (let z : ◌≡◌ {A = ℕ} 0 1 = cc in omega arith)
-ended_one (Ended·refused r) (Ended·refused s) e = cc
+checked_whole : (x : Result (ℕ × ℕ) Refusal) → back sizes (checked x) ≡ x
+checked_whole (Ok (n, m)) = refl
+checked_whole (Err r) = refl
 
-pub compared_one : (x y : Compared) → compared x ≡ compared y → x ≡ y
-compared_one Same Same e = refl
-compared_one Same (Differs m c t) e = absurd (let z : ◌≡◌ {A = ℕ} 0 1 = cc in omega arith)
-compared_one Same (Compared·refused q) e = absurd (let z : ◌≡◌ {A = ℕ} 0 1 = cc in omega arith)
-compared_one (Differs n b s) Same e = absurd (let z : ◌≡◌ {A = ℕ} 0 1 = cc in omega arith)
-compared_one (Differs n b s) (Differs m c t) e = cc
-compared_one (Differs n b s) (Compared·refused q) e = absurd (let z : ◌≡◌ {A = ℕ} 0 1 = cc in omega arith)
-compared_one (Compared·refused r) Same e = absurd (let z : ◌≡◌ {A = ℕ} 0 1 = cc in omega arith)
-compared_one (Compared·refused r) (Differs m c t) e = absurd (let z : ◌≡◌ {A = ℕ} 0 1 = cc in omega arith)
-compared_one (Compared·refused r) (Compared·refused q) e = cc
+pub checked_one : (x y : Result (ℕ × ℕ) Refusal) → checked x ≡ checked y → x ≡ y
+checked_one = told_in_full checked (back sizes) checked_whole
+
+abbrev kind_back : Told → Option ℕ
+kind_back (kind n) = Some n
+kind_back none = None
+
+kind_whole : (x : Result (Option ℕ) Refusal) → back kind_back (kind_told x) ≡ x
+kind_whole (Ok (Some n)) = refl
+kind_whole (Ok None) = refl
+kind_whole (Err r) = refl
+
+pub told_one : (x y : Result (Option ℕ) Refusal) → kind_told x ≡ kind_told y → x ≡ y
+told_one = told_in_full kind_told (back kind_back) kind_whole
+
+abbrev ending_back : Ending → ℕ → Ended
+ending_back Ending·done n = Done n
+ending_back (StuckAt at) n = Stuck n at
+ending_back (FullAt at) n = Full n at
+
+abbrev report_back : Report → Ended
+report_back r = ending_back r.ending r.count
+
+ended_whole : (x : Result Ended Refusal) → back report_back (ended x) ≡ x
+ended_whole (Ok (Done n)) = refl
+ended_whole (Ok (Stuck n at)) = refl
+ended_whole (Ok (Full n at)) = refl
+ended_whole (Err r) = refl
+
+pub ended_one : (x y : Result Ended Refusal) → ended x ≡ ended y → x ≡ y
+ended_one = told_in_full ended (back report_back) ended_whole
+
+abbrev compared_back : Compared·told → Option Difference
+compared_back same = None
+compared_back (differs n b t) = Some (record { len = n; by_book = b; by_table = t })
+
+compared_whole : (x : Result (Option Difference) Refusal) → back compared_back (compared x) ≡ x
+compared_whole (Ok None) = refl
+compared_whole (Ok (Some d)) = refl
+compared_whole (Err r) = refl
+
+pub compared_one : (x y : Result (Option Difference) Refusal) → compared x ≡ compared y → x ≡ y
+compared_one = told_in_full compared (back compared_back) compared_whole
