@@ -3,7 +3,7 @@
 use Prim.Native.Nat.{ℕ, zero, suc, ◌+◌, ◌-◌, ◌≤◌, ◌<◌}
 use native.Mathlib.Omega.{arith}
 use Rattle.std.proofs.Math.Decide.{dec_lt}
-use Rattle.std.specs.Prelude.{◌≡◌, Bool, not, cond, ◌&&◌, List, [], ◌∷◌, ◌++◌, eqb, length, get_or}
+use Rattle.std.specs.Prelude.{◌≡◌, Bool, cond, ◌&&◌, List, [], ◌∷◌, ◌++◌, eqb, length, get_or, Some, None}
 use Rattle.std.proofs.Math.Path.{refl, ap}
 use Rattle.std.proofs.Common.{sym, subst, ◌∙◌, append_assoc, eq-eqb, ne_eqb}
 use Rattle.std.proofs.Math.Bool.{true, false}
@@ -12,6 +12,7 @@ use Rattle.number.specs.Branch.{by_cond}
 use Rattle.number.specs.Lists.{Writes}
 use Rattle.advised.specs.Advice.{newline, space, kept, Run, neighbours, joined, runs, byte_name, run_name, run_names, tested_line}
 use Rattle.candidates.specs.Promises.{run_words, flagged, kept_from, runs_from, NextUp, RunOf}
+use Rattle.candidates.specs.Promises.NextUp.{up_at, none_up}
 use Rattle.phrases.specs.Left.{Left, left_as, left_room, left_step, left_none}
 use Rattle.number.specs.Quoted.{quoted}
 use Rattle.typed.specs.Spells.{bare}
@@ -145,64 +146,58 @@ pub tested_alike : (f g : ℕ → Bool) → ((i : ℕ) → i < bytes → f i ≡
 unfolding tested_line
 tested_alike f g e = ap (λ cs. quoted "here could stand:" ++ (run_names (runs cs) ++ (newline ∷ []))) (kept_alike f g bytes 0 (λ i h. e i (omega arith)))
 
--- ---- flags: one that is down is passed over, one that is up begins a run or goes on with it
-
-pub flag_down : (found : List ℕ) (c : ℕ) → get_or found c 0 ≡ 0 → flagged found c ≡ false
-unfolding flagged
-flag_down found c e = ap not (eq-eqb (get_or found c 0) 0 e)
-
-pub flag_up : (found : List ℕ) (c : ℕ) → (get_or found c 0 ≡ 0 → ⊥) → flagged found c ≡ true
-unfolding flagged
-flag_up found c n = ap not (ne_eqb (get_or found c 0) 0 n)
-
 -- the test of the code
-pub alike_not : (c : ℕ) → false ≡ bare c → false ≡ neighbours c
+pub alike_both : (c : ℕ) (a b : Bool) → a ≡ bare c → b ≡ bare (c + 1) → a && b ≡ neighbours c
 unfolding neighbours
-alike_not c e = rw (← e) refl
+alike_both c a b e h = rw (e, h) refl
 
-pub alike_next : (c : ℕ) (b : Bool) → true ≡ bare c → b ≡ bare (c + 1) → b ≡ neighbours c
+pub alike_not : (c : ℕ) (a : Bool) → a ≡ bare c → a ≡ false → a ≡ neighbours c
 unfolding neighbours
-alike_next c b e h = rw (← e) h
+alike_not c a e z = rw (← e, z) refl
 
 -- the flags from c up to r are down
-pub record Passed (found : List ℕ) (c r : ℕ) : Type 0 where
-  pub from : c ≤ r
+pub record Passed (found : List Bool) (c r : ℕ) : Type 0 where
   pub inside : r ≤ bytes
   pub passed : kept_from (flagged found) c ≡ kept_from (flagged found) r
 
-pub passed_none : (found : List ℕ) (c : ℕ) → c ≤ bytes → Passed found c c
-passed_none found c h = record { from = omega arith; inside = h; passed = refl }
+pub passed_none : (found : List Bool) (c : ℕ) → c ≤ bytes → Passed found c c
+passed_none found c h = record { inside = h; passed = refl }
 
-pub passed_more : (found : List ℕ) (c r : ℕ) → r < bytes → get_or found r 0 ≡ 0 → Passed found c r → Passed found c (r + 1)
-passed_more found c r h e p =
-    record { from = omega (arith, p.from); inside = omega arith; passed = p.passed ∙ from_down (flagged found) r h (flag_down found r e) }
+pub passed_more : (found : List Bool) (c r : ℕ) → r < bytes → get_or found r false ≡ false → Passed found c r → Passed found c (r + 1)
+unfolding flagged
+passed_more found c r h e p = record { inside = omega arith; passed = p.passed ∙ from_down (flagged found) r h e }
 
-pub next_up : (found : List ℕ) (c r : ℕ) → (get_or found r 0 ≡ 0 → ⊥) → Passed found c r → NextUp found c r
-next_up found c r n p = record { from = p.from; inside = p.inside; passed = p.passed; up = λ h. flag_up found r n }
+pub next_up : (found : List Bool) (c r : ℕ) → c ≤ r → r < bytes → get_or found r false ≡ true → Passed found c r → NextUp found c (Some r)
+unfolding flagged
+next_up found c r l h e p = up_at l h p.passed e
 
-pub next_none : (found : List ℕ) (c r : ℕ) → bytes ≤ r → Passed found c r → NextUp found c r
-next_none found c r h p = record { from = p.from; inside = p.inside; passed = p.passed; up = λ g. absurd (omega arith) }
+pub next_none : (found : List Bool) (c r : ℕ) → bytes ≤ r → Passed found c r → NextUp found c None
+unfolding kept
+next_none found c r h p =
+    let s : bytes - r ≡ 0 = omega arith in
+    none_up (p.passed ∙ ap (λ n. kept (flagged found) n r) s)
 
 -- the flags from lo up to hi are up, and each but the last has a neighbour
-pub record UpTo (found : List ℕ) (lo hi : ℕ) : Type 0 where
+pub record UpTo (found : List Bool) (lo hi : ℕ) : Type 0 where
   pub from : lo ≤ hi
   pub inside : hi < bytes
   pub up : (i : ℕ) → lo ≤ i → i ≤ hi → flagged found i ≡ true
   pub near : (i : ℕ) → lo ≤ i → i < hi → neighbours i ≡ true
 
-pub up_one : (found : List ℕ) (lo : ℕ) → lo < bytes → flagged found lo ≡ true → UpTo found lo lo
+pub up_one : (found : List Bool) (lo : ℕ) → lo < bytes → flagged found lo ≡ true → UpTo found lo lo
 up_one found lo h e = record { from = omega arith; inside = h; up = λ i l m. ap (flagged found) (same i l m) ∙ e; near = λ i l m. absurd (omega arith) }
   where
     same : (i : ℕ) → lo ≤ i → i ≤ lo → i ≡ lo
     same i l m = omega arith
 
-pub up_more : (found : List ℕ) (lo hi : ℕ) → hi + 1 < bytes → (get_or found (hi + 1) 0 ≡ 0 → ⊥) → true ≡ neighbours hi → UpTo found lo hi → UpTo found lo (hi + 1)
+pub up_more : (found : List Bool) (lo hi : ℕ) → hi + 1 < bytes → get_or found (hi + 1) false ≡ true → true ≡ neighbours hi → UpTo found lo hi → UpTo found lo (hi + 1)
+unfolding flagged
 up_more found lo hi h n e u =
     record {
       from = omega (arith, u.from);
       inside = h;
       up = λ i l m. elim (dec_lt hi i) [
-        | yes a ↦ ap (flagged found) (same i m a) ∙ flag_up found (hi + 1) n
+        | yes a ↦ ap (flagged found) (same i m a) ∙ n
         | no b ↦ u.up i l (omega arith)
       ];
       near = λ i l m. elim (dec_lt i hi) [
@@ -217,17 +212,19 @@ up_more found lo hi h n e u =
     last : (i : ℕ) → i < hi + 1 → (i < hi → ⊥) → i ≡ hi
     last i m b = omega arith
 
-pub run_stops : (found : List ℕ) (lo hi : ℕ) → get_or found (hi + 1) 0 ≡ 0 → UpTo found lo hi → RunOf found lo hi
+pub run_stops : (found : List Bool) (lo hi : ℕ) → get_or found (hi + 1) false ≡ false → UpTo found lo hi → RunOf found lo hi
+unfolding flagged
 run_stops found lo hi e u =
-    record { from = u.from; inside = u.inside; whole = run_whole (flagged found) lo hi u.from u.inside u.up u.near (is_down (λ h. flag_down found (hi + 1) e)) }
+    record { from = u.from; inside = u.inside; whole = run_whole (flagged found) lo hi u.from u.inside u.up u.near (is_down (λ h. e)) }
 
-pub run_unlike : (found : List ℕ) (lo hi : ℕ) → false ≡ neighbours hi → UpTo found lo hi → RunOf found lo hi
+pub run_unlike : (found : List Bool) (lo hi : ℕ) → false ≡ neighbours hi → UpTo found lo hi → RunOf found lo hi
 run_unlike found lo hi e u =
     record { from = u.from; inside = u.inside; whole = run_whole (flagged found) lo hi u.from u.inside u.up u.near (unlike (sym e)) }
 
-pub run_ends : (found : List ℕ) (lo hi : ℕ) → bytes ≤ hi + 1 → UpTo found lo hi → RunOf found lo hi
+pub run_ends : (found : List Bool) (lo hi : ℕ) → bytes - 1 ≤ hi → UpTo found lo hi → RunOf found lo (bytes - 1)
 run_ends found lo hi h u =
-    record { from = u.from; inside = u.inside; whole = run_whole (flagged found) lo hi u.from u.inside u.up u.near (is_down (λ g. absurd (omega arith))) }
+    let e : hi ≡ bytes - 1 = omega (arith, u.inside) in
+    rw (← e) (record { from = u.from; inside = u.inside; whole = run_whole (flagged found) lo hi u.from u.inside u.up u.near (is_down (λ g. absurd (omega arith))) })
 
 -- ---- a run, as it is written
 
@@ -250,26 +247,30 @@ module _ (lo hi : ℕ) {whole s t : List ℕ} {at₀ at : ℕ} where
 
 -- ---- the line of runs, as it is written
 
-abbrev pub runs_line : List ℕ → ℕ → List ℕ
+abbrev pub runs_line : List Bool → ℕ → List ℕ
 runs_line found c = run_names (runs_from (flagged found) c) ++ (newline ∷ [])
 
-pub line_start : (found s : List ℕ) (at : ℕ) → at + length (tested_line (flagged found)) ≤ length s
+pub line_start : (found : List Bool) (s : List ℕ) (at : ℕ) → at + length (tested_line (flagged found)) ≤ length s
     → Left (tested_line (flagged found)) (quoted "here could stand:" ++ runs_line found 0) s s at at
 unfolding tested_line
 line_start found s at h = record { room = h; same = refl; ends = λ u end x. x }
 
-pub line_passed : (found : List ℕ) {c r : ℕ} {whole s t : List ℕ} {at₀ at : ℕ} → NextUp found c r → Left whole (runs_line found c) s t at₀ at
+pub line_passed : (found : List Bool) {c r : ℕ} {whole s t : List ℕ} {at₀ at : ℕ} → NextUp found c (Some r) → Left whole (runs_line found c) s t at₀ at
     → Left whole (runs_line found r) s t at₀ at
-line_passed found n l = left_as (ap (λ cs. run_names (runs cs) ++ (newline ∷ [])) n.passed) l
+line_passed found (up_at l h p e) k = left_as (ap (λ cs. run_names (runs cs) ++ (newline ∷ [])) p) k
 
-line_run : (found : List ℕ) (lo hi : ℕ) → RunOf found lo hi
+-- the byte that was found
+pub up_inside : {found : List Bool} {c r : ℕ} → NextUp found c (Some r) → (c ≤ r) × (r < bytes) × (flagged found r ≡ true)
+up_inside (up_at l h p e) = (l, h, e)
+
+line_run : (found : List Bool) (lo hi : ℕ) → RunOf found lo hi
     → runs_line found lo ≡ run_words lo hi ++ runs_line found (hi + 1)
 unfolding run_names
 line_run found lo hi r =
     ap (λ rs. run_names rs ++ (newline ∷ [])) r.whole ∙
     append_assoc (run_words lo hi) (run_names (runs_from (flagged found) (hi + 1))) (newline ∷ [])
 
-module _ (found : List ℕ) (lo hi : ℕ) {whole s t : List ℕ} {at₀ at : ℕ} where
+module _ (found : List Bool) (lo hi : ℕ) {whole s t : List ℕ} {at₀ at : ℕ} where
   pub run_room : RunOf found lo hi → Left whole (runs_line found lo) s t at₀ at
       → at + length (run_words lo hi) ≤ length t
   run_room r l = left_room (run_words lo hi) (runs_line found (hi + 1)) (left_as (line_run found lo hi r) l)
@@ -278,7 +279,7 @@ module _ (found : List ℕ) (lo hi : ℕ) {whole s t : List ℕ} {at₀ at : ℕ
       → Writes (run_words lo hi) t u at mid → Left whole (runs_line found (hi + 1)) s u at₀ mid
   run_more r l a = left_step (run_words lo hi) (runs_line found (hi + 1)) (left_as (line_run found lo hi r) l) a
 
-pub line_end : (found : List ℕ) (c : ℕ) {whole s t : List ℕ} {at₀ at : ℕ} → bytes ≤ c → Left whole (runs_line found c) s t at₀ at
+pub line_end : (found : List Bool) (c : ℕ) {whole s t : List ℕ} {at₀ at : ℕ} → NextUp found c None → Left whole (runs_line found c) s t at₀ at
     → Left whole (newline ∷ []) s t at₀ at
-unfolding run_names
-line_end found c h l = left_as (ap (λ rs. run_names rs ++ (newline ∷ [])) (from_end (flagged found) c h)) l
+unfolding run_names runs
+line_end found c (none_up p) l = left_as (ap (λ cs. run_names (runs cs) ++ (newline ∷ [])) p) l

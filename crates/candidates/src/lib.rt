@@ -6,12 +6,11 @@ ghost use Rattle.std.specs.Prelude.{◌+◌, ◌<◌, ◌≤◌, ◌≡◌, true
 ghost use Rattle.number.specs.Lists.{Writes};
 ghost use Rattle.number.specs.Limits.{bytes, rules_file};
 ghost use Rattle.advised.specs.Advice.{neighbours, could_stand, tested_line};
-ghost use Rattle.candidates.specs.Promises.{run_words, flagged, NextUp, RunOf, Elsewhere, CouldEnd, Tried};
+ghost use Rattle.candidates.specs.Promises.{run_words, flagged, NextUp, RunOf, could_end, Tried};
 
 use number::Refusal;
 use number::limits::{BYTES, RULES_FILE, TYPED_AREA};
 use phrases::{NEWLINE, put_name, put_text};
-use table::Written;
 
 // A space and a run of neighbouring bytes.
 fn put_run(lo: u8, hi: u8, out: &mut [u8], at: usize) -> usize
@@ -27,19 +26,17 @@ fn put_run(lo: u8, hi: u8, out: &mut [u8], at: usize) -> usize
     put_name(hi, out, last)
 }
 
-// The first byte from c on whose flag is up, or 256.
-fn next_up(found: &[u8], c: usize) -> usize
+// The first byte from c on whose flag is up.
+fn next_up(found: &[bool], c: usize) -> Option<usize>
     requires { (length found.now ≡ bytes) × (c ≤ bytes) }
     ensures { NextUp found.now c result }
 {
-    let mut r = c;
-    while r < BYTES {
-        if found[r] != 0 {
-            return r;
+    for r in c..BYTES {
+        if found[r] {
+            return Some(r);
         }
-        r = r + 1;
     }
-    r
+    None
 }
 
 // Whether a byte and the next are two letters or two digits, which are told as from one to another.
@@ -47,83 +44,62 @@ fn alike(c: usize) -> bool
     requires { c + 1 < bytes }
     ensures { result ≡ neighbours c }
 {
-    if !names::is_bare(c as u8) {
-        return false;
-    }
-    names::is_bare((c + 1) as u8)
+    names::is_bare(c as u8) && names::is_bare((c + 1) as u8)
 }
 
 // The last byte of the run that starts at lo.
-fn run_end(found: &[u8], lo: usize) -> usize
+fn run_end(found: &[bool], lo: usize) -> usize
     requires { (length found.now ≡ bytes) × (lo < bytes) × (flagged found.now lo ≡ true) }
     ensures { RunOf found.now lo result }
 {
-    let mut hi = lo;
-    while hi + 1 < BYTES {
-        if found[hi + 1] == 0 {
+    for hi in lo..BYTES - 1 {
+        if !found[hi + 1] {
             return hi;
         }
         if !alike(hi) {
             return hi;
         }
-        hi = hi + 1;
     }
-    hi
+    BYTES - 1
 }
 
 // The bytes whose flags are up, as runs.
-fn put_runs(found: &[u8], out: &mut [u8], at: usize) -> usize
+fn put_runs(found: &[bool], out: &mut [u8], at: usize) -> usize
     requires found_len { length found.now ≡ bytes }
     requires found_in_bounds { at + length (tested_line (flagged found.now)) ≤ length out.old }
     ensures { Writes (tested_line (flagged found.now)) out.old out.new at result }
 {
     let mut end = put_text(b"here could stand:", out, at);
-    let mut lo = next_up(found, 0);
-    while lo < BYTES {
+    let mut from = 0;
+    while let Some(lo) = next_up(found, from) {
         let hi = run_end(found, lo);
         end = put_run(lo as u8, hi as u8, out, end);
-        lo = next_up(found, hi + 1);
+        from = hi + 1;
     }
     lines::put_byte(NEWLINE, out, end)
 }
 
-// 0 for the refusal of a byte that is typed wrongly at p, 1 for any other.
-fn elsewhere(r: Refusal, p: usize) -> u8
-    ensures { Elsewhere p r result }
-{
-    if number::refusal_number(r) != number::refusal_number(Refusal::Typed(p)) {
-        return 1;
-    }
-    if number::refusal_place(r) != p {
-        return 1;
-    }
-    0
-}
-
-// Whether some rightly typed text begins with these bytes, of which all but the last begin one: 1, else 0.
-fn could_end(tried: &[u8]) -> u8
+// Whether some rightly typed text begins with these bytes, of which all but the last begin one.
+fn could_end(tried: &[u8]) -> bool
     requires { 1 ≤ length tried.now }
-    ensures { CouldEnd tried.now result }
+    ensures { result ≡ could_end tried.now }
 {
     let mut area = [0u8; TYPED_AREA];
     match typing::type_rules(tried, &mut area) {
-        Written::Bytes(_) => 1,
-        Written::Unwritten(r) => elsewhere(r, tried.len() - 1),
+        Ok(_) => true,
+        Err(refusal) => refusal != Refusal::Typed(tried.len() - 1),
     }
 }
 
 // The flags of all bytes: each is put at place p and tried.
-fn try_bytes(p: usize, tried: &mut [u8], found: &mut [u8])
+fn try_bytes(p: usize, tried: &mut [u8], found: &mut [bool])
     requires p_in_bounds { p < length tried.old }
     requires found_len { length found.old ≡ bytes }
     ensures { Tried (take p tried.old) found.new }
 {
-    let mut c = 0;
-    while c < BYTES {
+    for c in 0..BYTES {
         tried[p] = c as u8;
-        let flag = could_end(&tried[0..p + 1]);
-        found[c] = flag;
-        c = c + 1;
+        found[c] = could_end(&tried[..p + 1]);
     }
 }
 
@@ -132,7 +108,7 @@ fn put_could_in(
     text: &[u8],
     p: usize,
     tried: &mut [u8],
-    found: &mut [u8],
+    found: &mut [bool],
     out: &mut [u8],
     at: usize,
 ) -> usize
@@ -154,6 +130,6 @@ pub fn put_could(text: &[u8], p: usize, out: &mut [u8], at: usize) -> usize
     ensures { Writes (tested_line (could_stand (take p text.now))) out.old out.new at result }
 {
     let mut tried = [0u8; RULES_FILE + 1];
-    let mut found = [0u8; BYTES];
+    let mut found = [false; BYTES];
     put_could_in(text, p, &mut tried, &mut found, out, at)
 }

@@ -1,6 +1,6 @@
 -- Laws of the answers, one for each return of the code, from the walk's end up to the public call.
 -- What the walk found is what the book's rules come to beside the table; Room, Loaded and the book's refusals come before.
-use Rattle.std.specs.Prelude.{ℕ, ◌+◌, ◌*◌, ◌-◌, ◌<◌, ◌≤◌, ◌≡◌, refl, Bool, true, false, cond, length, take, drop, replicate}
+use Rattle.std.specs.Prelude.{ℕ, ◌+◌, ◌*◌, ◌-◌, ◌<◌, ◌≤◌, ◌≡◌, refl, Bool, true, false, cond, length, take, drop, replicate, Option, Result, Ok, Err}
 use Rattle.std.proofs.Common.{sym, subst, ◌∙◌, arith, lt-ltb, le-ltb, drop_of_length-le}
 use Rattle.std.proofs.Math.Path.{ap}
 use mathlib.Core.List.{List, [], ◌++◌, append-nil}
@@ -21,12 +21,10 @@ use Rattle.table.specs.SheetFormed.{well_formed_lem}
 use Rattle.walk.specs.Walk.{walk_from}
 use Rattle.walk.specs.Walk.Walked.{halted}
 use Rattle.vector.specs.Layout.{work_length}
-use Rattle.steps.specs.declared.Stepped.{Stepped}
-use Rattle.steps.specs.declared.Stepped.TheVariants.{Reached, Stopped}
+use Rattle.steps.specs.declared.Extent.{Extent}
 use Rattle.steps.specs.CallLaws.{kept_reads}
 use Rattle.start.specs.Start.{rules_in}
-use Rattle.verdict.specs.declared.Compared.{Compared}
-use Rattle.verdict.specs.declared.Compared.TheVariants.{Refused}
+use Rattle.verdict.specs.declared.Difference.{Difference}
 use Rattle.verdict.specs.Compare.{Verdict, compared_by, compare_rules}
 use Rattle.verdict.specs.Compare.Verdict.{Same, Differs}
 use Rattle.verdict.specs.Calls.{compare_read, compare_book, Comparison, answered_in, compare_of}
@@ -36,13 +34,13 @@ use Rattle.comparing.specs.Promises.{Comparable, Rules, loaded_of, Compares}
 
 -- ---- a book's rules against a table's labels and targets
 
-module _ (file : List ℕ) (n : ℕ) (labels targets area s : List ℕ) (ok : Comparable file n labels targets area s) (s₁ : List ℕ) (x : Stepped)
+module _ (file : List ℕ) (n : ℕ) (labels targets area s : List ℕ) (ok : Comparable file n labels targets area s) (s₁ : List ℕ) (x : Result Extent Refusal)
     (ends : Ends n targets s₁ (walk_from (by_targets targets) (rules_in file)) x) where
   as_walk : (t : Table) → t.targets ≡ targets → compare_rules t (rules_in file) ≡ compared_by t (walk_from (by_targets targets) (rules_in file))
   unfolding compare_rules
   as_walk t q = ap (λ (u : List ℕ). compared_by t (walk_from (by_targets u) (rules_in file))) q
 
-  pub rules_refused : (r : Refusal) → x ≡ Stopped r → Rules file labels targets area area (Refused r)
+  pub rules_refused : (r : Refusal) → x ≡ Err r → Rules file labels targets area area (Err r)
   rules_refused r e = record {
     rules = λ t p q.
         let w : walk_from (by_targets targets) (rules_in file) ≡ halted r = subst (Ends n targets s₁ (walk_from (by_targets targets) (rules_in file))) e ends in
@@ -50,12 +48,12 @@ module _ (file : List ℕ) (n : ℕ) (labels targets area s : List ℕ) (ok : Co
         record { answer = rw o refl; text = rw o ok.blank.clear };
   }
 
-  module _ (top count j : ℕ) (e : x ≡ Reached top count j) where
-    found : Walks n targets s₁ top count (walk_from (by_targets targets) (rules_in file))
+  module _ (y : Extent) (e : x ≡ Ok y) where
+    found : Walks n targets s₁ y.top y.count (walk_from (by_targets targets) (rules_in file))
     found = subst (Ends n targets s₁ (walk_from (by_targets targets) (rules_in file))) e ends
 
     -- the items' labels and texts can be told
-    pub rules_legible : Legible s₁ n count labels
+    pub rules_legible : Legible s₁ n y.count labels
     rules_legible =
         let b = found.beside in
         record {
@@ -65,20 +63,20 @@ module _ (file : List ℕ) (n : ℕ) (labels targets area s : List ℕ) (ok : Co
           sheets = λ k l. omega (arith, ok.rows, b.sheets k l);
         }
 
-    pub rules_traced : Traced s₁ count
+    pub rules_traced : Traced s₁ y.count
     rules_traced =
         let b = found.beside in
         record { long = b.kept.long; few = b.few; parents = b.kept.parents; text_bytes = b.kept.text_bytes }
 
-    pub rules_shown : (area' : List ℕ) (r : Compared) → Shows s₁ n count labels area area' r → Rules file labels targets area area' r
+    pub rules_shown : (area' : List ℕ) (r : Option Difference) → Shows s₁ n y.count labels area area' r → Rules file labels targets area area' (Ok r)
     rules_shown area' r f = record {
-      rules = λ t p q. subst (λ (o : Outcome Verdict). Answers o area area' r) (sym (as_walk t q ∙ ap (compared_by t) found.goes)) (f.shows t p);
+      rules = λ t p q. subst (λ (o : Outcome Verdict). Answers o area area' (Ok r)) (sym (as_walk t q ∙ ap (compared_by t) found.goes)) (f.shows t p);
     }
 
 -- ---- a book and a table
 
 module _ (file : List ℕ) (m : ℕ) (labels targets area : List ℕ) (blank : Blank area) where
-  pub loaded_ill : false ≡ well_formed m labels targets → Answers (loaded_of file m labels targets) area area (Refused Loaded)
+  pub loaded_ill : false ≡ well_formed m labels targets → Answers (loaded_of file m labels targets) area area (Err Loaded)
   loaded_ill e = record { answer = rw (← e) refl; text = rw (← e) blank.clear }
 
   module _ (well : true ≡ well_formed m labels targets) where
@@ -88,7 +86,7 @@ module _ (file : List ℕ) (m : ℕ) (labels targets area : List ℕ) (blank : B
     as_loaded : loaded_of file m labels targets ≡ compare_book file (lent m labels targets)
     as_loaded = rw (← well)
 
-    pub loaded_refused : (r : Refusal) → size_of (read_book file) ≡ refuses r → Answers (loaded_of file m labels targets) area area (Refused r)
+    pub loaded_refused : (r : Refusal) → size_of (read_book file) ≡ refuses r → Answers (loaded_of file m labels targets) area area (Err r)
     loaded_refused r e =
         let o : loaded_of file m labels targets ≡ refuses r = as_loaded ∙ ap (compare_read (lent m labels targets)) (checked_refused file r e) in
         record { answer = rw o refl; text = rw o blank.clear }
@@ -115,7 +113,7 @@ module _ (file : List ℕ) (m : ℕ) (labels targets area : List ℕ) (blank : B
             blank = blank;
           }
 
-      pub loaded_compared : (area' : List ℕ) (r : Compared) → Rules file ls ts area area' r → Answers (loaded_of file m labels targets) area area' r
+      pub loaded_compared : (area' : List ℕ) (r : Result (Option Difference) Refusal) → Rules file ls ts area area' r → Answers (loaded_of file m labels targets) area area' r
       loaded_compared area' r f =
           let c = checked_counts file n sum counted in
           let o : compare_rules (lent m labels targets) (rules_in file) ≡ loaded_of file m labels targets =
@@ -151,7 +149,7 @@ answered_work area work (gives (Differs text b s)) = refl
 answered_work area work (refuses r) = refl
 
 module _ (file : List ℕ) (m : ℕ) (labels targets area work : List ℕ) where
-  pub compare_small_area : length area < shown_text → Compares file m labels targets area work area work (Refused Room)
+  pub compare_small_area : length area < shown_text → Compares file m labels targets area work area work (Err Room)
   compare_small_area h = record {
     answer = simp (lt-ltb _ _ h);
     row = simp (lt-ltb _ _ h);
@@ -159,7 +157,7 @@ module _ (file : List ℕ) (m : ℕ) (labels targets area work : List ℕ) where
     work_after = simp (lt-ltb _ _ h);
   }
 
-  pub compare_small_work : shown_text ≤ length area → length work < work_length → Compares file m labels targets area work area work (Refused Room)
+  pub compare_small_work : shown_text ≤ length area → length work < work_length → Compares file m labels targets area work area work (Err Room)
   compare_small_work h k = record {
     answer = simp (le-ltb _ _ h, lt-ltb _ _ k);
     row = simp (le-ltb _ _ h, lt-ltb _ _ k);
@@ -177,7 +175,7 @@ module _ (file : List ℕ) (m : ℕ) (labels targets area work : List ℕ) where
         by_cases true = refl
         by_cases false = refl
 
-    pub compare_done : (area₁ area₂ work₁ work₂ : List ℕ) (r : Compared) → length area₁ ≡ length area → Answers (loaded_of file m labels targets) area₁ area₂ r
+    pub compare_done : (area₁ area₂ work₁ work₂ : List ℕ) (r : Result (Option Difference) Refusal) → length area₁ ≡ length area → Answers (loaded_of file m labels targets) area₁ area₂ r
         → length work₁ ≡ length work → work₂ ≡ replicate (length work₁) 0 → Compares file m labels targets area work area₂ work₂ r
     compare_done area₁ area₂ work₁ work₂ r e a f g =
         let o = loaded_of file m labels targets in

@@ -8,12 +8,10 @@ ghost use Rattle.vector.specs.Layout.{work_length};
 ghost use Rattle.shown.specs.Promises.{Blank, Answers};
 ghost use Rattle.comparing.specs.Promises.{Comparable, Rules, loaded_of, Compares};
 
-use book::Checked;
 use number::Refusal;
 use number::limits::{BYTES, SHOWN_TEXT};
-use steps::Stepped;
 use vector::layout::WORK_LENGTH;
-pub use verdict::Compared;
+pub use verdict::Difference;
 
 // A book's `n` rules against a table's labels and targets, which are cut to its states.
 fn compare_rules<'a>(
@@ -23,16 +21,13 @@ fn compare_rules<'a>(
     targets: &'a [u8],
     area: &mut [u8],
     cells: &mut [u64],
-) -> Compared
+) -> Result<Option<Difference>, Refusal>
     requires { Comparable book.now n labels.now targets.now area.old cells.old }
     ensures { Rules book.now labels.now targets.now
         area.old area.new result }
 {
-    let went = pairs::walk_from(book, n, cells, targets);
-    match went {
-        Stepped::Stopped(r) => Compared::Refused(r),
-        Stepped::Reached(_, count, _) => shown::show(cells, n, count, labels, area),
-    }
+    let held = pairs::walk_from(book, n, cells, targets)?;
+    Ok(shown::show(cells, n, held.count, labels, area))
 }
 
 // Past Room: a table that is not well formed is refused before the book is read.
@@ -43,7 +38,7 @@ fn compare_loaded<'a>(
     targets: &'a [u8],
     area: &mut [u8],
     cells: &mut [u64],
-) -> Compared
+) -> Result<Option<Difference>, Refusal>
     requires blank { Blank area.old }
     requires work_length_in_bounds { work_length ≤ length cells.old }
     requires cells_len_bound { length cells.old ≤ work_cells }
@@ -51,18 +46,13 @@ fn compare_loaded<'a>(
         area.old area.new result }
 {
     if !table::well_formed(count, labels, targets) {
-        return Compared::Refused(Refusal::Loaded);
+        return Err(Refusal::Loaded);
     }
-    let checked = checking::check_book(book);
-    match checked {
-        Checked::Refused(r) => Compared::Refused(r),
-        Checked::Counts(n, _) => {
-            let end = count * BYTES;
-            let ls = &labels[0..count];
-            let ts = &targets[0..end];
-            compare_rules(book, n, ls, ts, area, cells)
-        }
-    }
+    let (n, _) = checking::check_book(book)?;
+    let end = count * BYTES;
+    let ls = &labels[0..count];
+    let ts = &targets[0..end];
+    compare_rules(book, n, ls, ts, area, cells)
 }
 
 // With room: only the front of the work area is lent on, so that a cell's number fits sixteen bits.
@@ -73,7 +63,7 @@ fn compare_part<'a>(
     targets: &'a [u8],
     area: &mut [u8],
     work: &mut [u64],
-) -> Compared
+) -> Result<Option<Difference>, Refusal>
     requires blank { Blank area.old }
     requires work_length_in_bounds { work_length ≤ length work.old }
     ensures { Answers (loaded_of book.now count labels.now targets.now)
@@ -97,16 +87,16 @@ pub fn compare_book<'a>(
     targets: &'a [u8],
     text_area: &mut [u8],
     work: &mut [u64],
-) -> Compared
+) -> Result<Option<Difference>, Refusal>
     ensures { Compares book.now count labels.now targets.now
         text_area.old work.old text_area.new work.new result }
 {
     let room = text_area.len();
     if room < SHOWN_TEXT {
-        return Compared::Refused(Refusal::Room);
+        return Err(Refusal::Room);
     }
     if work.len() < WORK_LENGTH {
-        return Compared::Refused(Refusal::Room);
+        return Err(Refusal::Room);
     }
     table::fill(text_area, 0, room, 0);
     let answer = compare_part(book, count, labels, targets, text_area, work);

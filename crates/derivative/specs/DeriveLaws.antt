@@ -1,7 +1,7 @@
 -- Laws for derive and with_rest, one for each of their calls and returns, over what the node told and what the callees answered.
 -- Pure laws come first: the limited derivative by its parts, and the cells that a Cat uses.
 use Rattle.std.specs.Prelude.{ℕ, ◌+◌, ◌-◌, ◌*◌, ◌<◌, ◌≤◌, ◌≡◌, refl, Bool, true, false, cond, ◌&&◌, ◌||◌, List, Option, None, Some, leb, eqb, length}
-use Rattle.std.proofs.Common.{arith, sym, ap, ◌∙◌, eq-eqb, ne_eqb}
+use Rattle.std.proofs.Common.{arith, sym, ap, ◌∙◌}
 use Rattle.number.specs.Branch.{by_cond}
 use Rattle.meaning.specs.declared.Join.{Join}
 use Rattle.meaning.specs.declared.Join.TheVariants.{Then, Or, Both}
@@ -22,11 +22,10 @@ use Rattle.term.specs.declared.Built.{Built}
 use Rattle.term.specs.Cells.{grow, term, Below, Sound}
 use Rattle.term.specs.Area.{pending, GrownFree, Room, Makes}
 use Rattle.term.specs.Nodes.{kind_of, first_of, second_of, arity_of, Found, OnePart, TwoParts}
-use Rattle.term.specs.CellLaws.{sound_less, grown_refl, grown_trans, grown_term, makes_old, makes_free, makes_after}
+use Rattle.term.specs.CellLaws.{sound_less, grown_refl, grown_trans, grown_term, makes_free, makes_after}
 use Rattle.term.specs.ReadLaws.{one_part, two_parts, one_size, two_size}
 use Rattle.normal.specs.Made.{MadeBy}
 use Rattle.normal.specs.Asked.{members, most_members, cat_cells, CountedLinks}
-use Rattle.normal.specs.Builds.{CatFits, NegatedFits}
 use Rattle.normal.specs.NodeLaws.{members_some}
 use Rattle.normal.specs.ChainLaws.{cat_few, cat_idle_left}
 use Rattle.normal.specs.AnswerLaws.{Got, long_is, made_term, made_after, long_after}
@@ -121,19 +120,7 @@ module _ (kind : ℕ) (v y : Re) where
   rest_shape : (w : Re) → InShape v → InShape y → rest_fit kind v y ≡ Fits w → InShape w
   rest_shape w p q e = rw e at (by_kind Shaped p (fit_shaped (negated v) (shape_negated v p)) (fit_shaped (cat v y) (shape_cat v y p q)))
 
--- what with_rest answers: the derivative alone, or turned, or with the rest behind it
-module _ {s : List ℕ} {top da b : ℕ} (l : CountedLinks s top da b) (kind : ℕ) {p : Bool} (q : p ≡ sided kind) where
-  pub rest_none : p ≡ true → Rested s top kind da b s (Some (record { root = da; top = top }))
-  rest_none e =
-      made_term _ (rest_fit kind (term s da) (term s b)) (rest_cells kind (term s da) (term s b))
-      (makes_old da 0 (term s da) l.links.sound l.links.left refl) (rw (sym q ∙ e)) (omega arith)
-
-  pub rest_turned : p ≡ false → kind ≡ 7 → {s' : List ℕ} {r : Option Built} → NegatedFits s top da s' r → Rested s top kind da b s' r
-  rest_turned e k m = rw (sym q ∙ e, eq-eqb kind 7 k) m
-
-  pub rest_behind : p ≡ false → (kind ≡ 7 → ⊥) → {s' : List ℕ} {r : Option Built} → CatFits s top da b s' r → Rested s top kind da b s' r
-  rest_behind e n m = rw (sym q ∙ e, ne_eqb kind 7 n) m
-
+-- what with_rest asks to turn the derivative
 pub turned_asks : {s : List ℕ} {top da b : ℕ} → CountedLinks s top da b → Sound s top × ((da < top) × Room s top (1 + pending))
 turned_asks {s} {top} {da} l = (l.links.sound, (l.links.left, omega (arith, l.count_room, members_some Then (term s da))))
 

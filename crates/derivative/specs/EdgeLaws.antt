@@ -3,7 +3,7 @@
 use Rattle.std.specs.Prelude.{ℕ, ◌+◌, ◌-◌, ◌<◌, ◌≤◌, min, ◌≡◌, refl, true, List, [], ◌∷◌, leb, ltb, eqb, length, get_or, set, replicate}
 use Rattle.std.proofs.Common.{arith, sym, ap, subst, ◌∙◌}
 use Rattle.std.proofs.Math.ListN.{length-replicate}
-use borrow.Author.Tests.{lt-ltb, le-ltb, le-leb, lt-leb, eqb-true, ne_eqb}
+use borrow.Author.Tests.{eqb-true, ne_eqb}
 use Rattle.number.specs.Branch.{by_cond}
 use Rattle.number.specs.Limits.{bytes, last_byte, work_cells}
 use Rattle.meaning.specs.Re.{Re, parts, sizes}
@@ -23,21 +23,7 @@ use Rattle.derivative.specs.Waiting.{leaf_edge, Passing}
 
 -- ---- one node
 
--- the answers for a range
-module _ (c : ℕ) (u : Term) (e : kind_of u ≡ 2) where
-  pub before_range : c < first_of u → first_of u ≡ leaf_edge u c
-  unfolding range_edge
-  before_range h = simp (e, lt-ltb c (first_of u) h)
-
-  pub in_range : first_of u ≤ c → c ≤ second_of u → second_of u + 1 ≡ leaf_edge u c
-  unfolding range_edge
-  in_range h k = simp (e, le-ltb c (first_of u) h, le-leb c (second_of u) k)
-
-  pub after_range : first_of u ≤ c → second_of u < c → bytes ≡ leaf_edge u c
-  unfolding range_edge
-  after_range h k = simp (e, le-ltb c (first_of u) h, lt-leb c (second_of u) k)
-
-pub no_range : (c : ℕ) (u : Term) → (kind_of u ≡ 2 → ⊥) → bytes ≡ leaf_edge u c
+no_range : (c : ℕ) (u : Term) → (kind_of u ≡ 2 → ⊥) → bytes ≡ leaf_edge u c
 no_range c u h = rw (ne_eqb (kind_of u) 2 h)
 
 -- a range's is the term's own

@@ -129,6 +129,7 @@ pub fn next_edge(cells: &[u64], i: usize, byte: usize) -> usize
     if arity(whole) == 0 {
         return leaf_edge(whole, byte);
     }
+    // Kept as an array with its length beside, since no memory is taken from a heap.
     let mut waiting = [0u16; WAITING];
     let mut count: usize = 0;
     let mut least = BYTES;

@@ -3,6 +3,7 @@
 #![tactic(auto)]
 
 ghost use Rattle.std.specs.Prelude.{◌<◌, ◌≤◌, ◌≡◌, ◌^◌, IfOk, IsErr, length, take};
+ghost use Rattle.files.specs.TurnLaws.{Under};
 ghost use Rattle.files.specs.Within.{Within, Turned, AnswersTo};
 
 use asked::open;
@@ -32,6 +33,16 @@ fn answer_to(got: io::Result<usize>) -> Answer
     }
 }
 
+// A transfer before its first call: of no bytes there is nothing to do.
+fn begin(room: usize) -> Transfer
+    ensures { Under room result }
+{
+    if room == 0 {
+        return Transfer::All;
+    }
+    Transfer::Going(0, INTERRUPTIONS)
+}
+
 // One read behind the bytes that are there, and how far it brings the transfer.
 fn read_turn<R: Read>(input: &mut R, buffer: &mut [u8], at: usize, left: u32) -> Transfer
     requires { at < length buffer.old }
@@ -47,20 +58,11 @@ fn read_turn<R: Read>(input: &mut R, buffer: &mut [u8], at: usize, left: u32) ->
 fn read<R: Read>(input: &mut R, buffer: &mut [u8]) -> Transfer
     ensures { Within (length buffer.old) result }
 {
-    let mut at: usize = 0;
-    let mut left = INTERRUPTIONS;
-    while at < buffer.len() {
-        match read_turn(input, buffer, at, left) {
-            Transfer::Going(moved, fewer) => {
-                at = moved;
-                left = fewer;
-            }
-            Transfer::All => return Transfer::All,
-            Transfer::Ended(count) => return Transfer::Ended(count),
-            Transfer::Failed => return Transfer::Failed,
-        }
+    let mut now = begin(buffer.len());
+    while let Transfer::Going(at, left) = now {
+        now = read_turn(input, buffer, at, left);
     }
-    Transfer::All
+    now
 }
 
 // One write of the bytes that are left, and how far it brings the transfer.
@@ -76,20 +78,12 @@ fn write_turn<W: Write>(out: &mut W, bytes: &[u8], at: usize, left: u32) -> Tran
 pub fn write<W: Write>(out: &mut W, bytes: &[u8]) -> Transfer
     ensures { Within (length bytes.now) result }
 {
-    let mut at: usize = 0;
-    let mut left = INTERRUPTIONS;
-    while at < bytes.len() {
-        match write_turn(out, bytes, at, left) {
-            Transfer::Going(moved, fewer) => {
-                at = moved;
-                left = fewer;
-            }
-            Transfer::All => return Transfer::All,
-            Transfer::Ended(count) => return Transfer::Ended(count),
-            Transfer::Failed => return Transfer::Failed,
-        }
+    // Kept beside the loop of `read`, since one loop for both would have to be told of each state of a turn that it is lent, which is no plainer.
+    let mut now = begin(bytes.len());
+    while let Transfer::Going(at, left) = now {
+        now = write_turn(out, bytes, at, left);
     }
-    Transfer::All
+    now
 }
 
 // The number of bytes of an input that was read to its end. Where it has as many as the buffer or more, or a read fails, or it could not be opened,

@@ -1,21 +1,14 @@
 -- The law of load where a sheet was read: what was read, filled up with 0, is what table's Calls says. Its refusals need none.
 -- Filling goes to the end of the lent memory, so that nothing of what stood there before is left.
-use Rattle.std.specs.Prelude.{ℕ, ◌+◌, ◌-◌, ◌*◌, ◌≤◌, ◌≡◌, refl, Ok, List, ◌++◌, length, replicate}
-use Rattle.std.proofs.Common.{zero-add, arith, sym, ap, ◌∙◌, append-nil, le-ltb, length-append, drop_of_length-le}
+use Rattle.std.specs.Prelude.{ℕ, ◌-◌, ◌*◌, ◌≤◌, ◌≡◌, refl, Ok, List, ◌++◌, length, replicate}
+use Rattle.std.proofs.Common.{zero-add, arith, sym, ap, ◌∙◌, le-ltb, length-append}
 use Rattle.std.proofs.lemmas.List.{length-replicate}
 use Rattle.number.specs.Limits.{states, bytes, table_cells}
 use Rattle.number.specs.Lists.{written, written_more}
 use Rattle.table.specs.Sheet.{read_sheet}
 use Rattle.table.specs.Calls.{padded, load_read, load_of}
 use Rattle.table.specs.Promises.{Loads}
-use Rattle.reading.specs.ReadingLaws.{SheetGot}
-
--- a run of bytes as long as the memory is all that is left of it
-written_whole : (s w : List ℕ) → length w ≡ length s → written s 0 w ≡ w
-unfolding written
-written_whole s w e =
-    let over : length s ≤ 0 + length w = omega arith in
-    rw (drop_of_length-le s over, append-nil w)
+use Rattle.reading.specs.ReadingLaws.{written_whole, SheetGot}
 
 padded_whole : (s s' cells : List ℕ) (n at : ℕ) → n ≡ length s → at ≡ length cells → at ≤ n
     → s' ≡ written (written s 0 cells) at (replicate (n - at) 0) → s' ≡ padded n cells

@@ -15,7 +15,7 @@ use normal::{Built, joins, nest};
 use term::{Term, compare_terms, first_of, is_nothing, node_at, second_of};
 
 // How the merge of two terms' members goes on, by the first ones: it stands in a cell; it is a member and the rest, in two cells;
-// or it is a member, in the first cell, before the merge of two terms.
+// or it is a member, in the first cell, before the merge of two terms. Kept as an enum, since none of the three is a failure or a lack.
 #[derive(Clone, Copy)]
 enum Next {
     Whole(usize),
@@ -101,9 +101,8 @@ fn beside(join: Join, nothing: usize, other: usize) -> usize
     ensures { result ≡ beside_of join nothing other }
 {
     match join {
-        Join::Then => nothing,
         Join::Or => other,
-        Join::Both => nothing,
+        Join::Then | Join::Both => nothing,
     }
 }
 

@@ -1,26 +1,14 @@
--- Laws of one pair in the work area, one for each return of the code: the state behind its number for it, and the number told for it.
+-- Laws of the number told for a pair in the work area, one for each return of the code.
 -- Where the start was met again is found by looking for it among the items.
-use Rattle.std.specs.Prelude.{ℕ, zero, suc, ◌-◌, ◌<◌, ◌≡◌, refl, Option, unwrap_or, List, get_or}
+use Rattle.std.specs.Prelude.{ℕ, ◌-◌, ◌<◌, ◌≡◌, refl, Option, unwrap_or, List, get_or}
 use Rattle.std.proofs.Common.{sym, ap, ◌∙◌, arith}
 use Rattle.walk.specs.Walk.{Item, none, number_in}
 use Rattle.vector.specs.Memory.{numbers_at, item_of, items_of}
 use Rattle.vector.specs.Promises.{Finds}
 use Rattle.vector.specs.MemoryLaws.{items_at, found_number}
-use Rattle.verdict.specs.Compare.{state_of, start_pair, told_by, number_told}
+use Rattle.verdict.specs.Compare.{start_pair, told_by, number_told}
 use Rattle.verdict.specs.NumberLaws.{at_start, behind_start, before_start}
 use Rattle.pair.specs.Promises.{Numbered}
-
--- ---- the state behind a number
-
-pub state_entry : (q : ℕ) → q ≡ 0 → 0 ≡ state_of q
-state_entry zero e = refl
-state_entry (suc q) e = absurd (omega arith)
-
-pub state_past : (q : ℕ) → 0 < q → q - 1 ≡ state_of q
-state_past zero f = absurd (omega arith)
-state_past (suc q) f = let e : suc q - 1 ≡ q = omega arith in e
-
--- ---- the number told, as the code works it out
 
 module _ (s : List ℕ) (n m i : ℕ) (ok : Numbered s n m i) (v : List ℕ) (loaded : v ≡ numbers_at s 0) (r : Option ℕ) (finds : Finds s m 1 v r) where
   -- where the start was met again, or the count of the items

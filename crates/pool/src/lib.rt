@@ -46,6 +46,7 @@ fn find_cell(index: &[u16], cells: &[u64], top: usize, node: Term) -> Option<usi
 }
 
 // Puts a node whose children stand in the pool into the pool: in the cell that holds it already, or in a new one at the front of its chain.
+// Kept as index, cells and top, and not as one struct, since what builds terms takes `cells` alone: it would be taken apart at each such call.
 pub fn put_node(index: &mut [u16], cells: &mut [u64], top: usize, node: Term) -> Built
     requires fact { Open index.old cells.old top 1 }
     requires below { Below node top }

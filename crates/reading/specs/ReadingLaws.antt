@@ -1,11 +1,13 @@
 -- Laws of reading a sheet into memory: what each way of reading a row, the states and the whole sheet leaves.
 -- Each way of the code is one law; what was read before stands in the law as the fields that were got.
 use Prim.Native.Nat.{ℕ, zero, suc, ◌+◌, ◌-◌, ◌*◌, ◌≤◌, ◌<◌}
-use Rattle.std.proofs.Common.{arith, sym, ap, ◌∙◌, length-append}
+use Rattle.std.proofs.Common.{arith, sym, ap, ◌∙◌, append-nil, length-append, length-take, length-drop, drop_of_length-le}
+use borrow.Rule.Slice.PartMut.{put_mid}
+use Rattle.table.specs.FillLaws.{part_written}
 use Rattle.std.specs.Prelude.{◌≡◌, refl, Result, Bool, true, false, ltb, eqb, set}
 use mathlib.Core.List.{List, [], ◌∷◌, ◌++◌}
 use borrow.Author.Tests.{lt-ltb, le-ltb, eq-eqb, ne_eqb, ltb-false}
-use Rattle.std.proofs.Math.ListN.{length, replicate}
+use Rattle.std.proofs.Math.ListN.{length, take, drop, replicate}
 use Rattle.std.proofs.lemmas.List.{length-replicate}
 use Rattle.number.specs.declared.Refusal.{Refusal}
 use Rattle.number.specs.declared.Refusal.TheVariants.{Runs}
@@ -159,6 +161,22 @@ row_got {x} {s} {n = n} {next = next} l e =
 pub row_refused : {x : Answer (List ℕ)} {s cell : ℕ} {t t' : List ℕ} {r : Result (ℕ × ℕ) Refusal} {q : Refusal} → LaysRow x s t cell t' r
     → taken r ≡ refused q → x ≡ refused q
 row_refused {x} {s} {q = q} l e = mapped_refused x (λ (row : List ℕ). s) q (sym l.answer ∙ e)
+
+-- bytes as many as the memory has are all that is in it
+pub written_whole : (s w : List ℕ) → length w ≡ length s → written s 0 w ≡ w
+unfolding written
+written_whole s w e =
+    let over : length s ≤ 0 + length w = omega arith in
+    rw (drop_of_length-le s over, append-nil w)
+
+-- a whole row in its part of the memory
+pub row_placed : (t : List ℕ) (cell : ℕ) (row : List ℕ) {row' : List ℕ} → cell + bytes ≤ length t → length row ≡ bytes
+    → row' ≡ written (take (cell + bytes - cell) (drop cell t)) 0 row → put_mid cell (cell + bytes - cell) t row' ≡ written t cell row
+row_placed t cell row h size e =
+    let width : cell + bytes - cell ≡ bytes = omega arith in
+    let part : length row ≡ length (take (cell + bytes - cell) (drop cell t)) = simp (length-take, length-drop) (omega arith) in
+    rw (e, written_whole (take (cell + bytes - cell) (drop cell t)) row part)
+    (part_written t cell (cell + bytes - cell) row (omega (arith, size, width)))
 
 -- ---- states
 

@@ -2,27 +2,25 @@
 // Each reader follows its definition of table's Sheet and requires room for what it reads; what a refused one has left is not told.
 #![tactic(auto)]
 
-ghost use Rattle.std.specs.Prelude.{◌+◌, ◌*◌, ◌≤◌, IfOk, length};
+ghost use Rattle.std.specs.Prelude.{◌*◌, ◌≤◌, IfOk, length};
 ghost use Rattle.number.specs.Limits.{states, bytes, table_cells};
 ghost use Rattle.table.specs.Sheet.{read_runs, read_states, read_sheet};
 ghost use Rattle.reading.specs.Promises.{LaysRow, LaysRows, LaysTable};
 
 use number::Refusal;
 use number::limits::{BYTES, RULES, SHEET_VERSION, STATES};
-use table::fill;
 
-// So many runs of a state of a sheet of s states, whose cells start at `base`; before the first, s stands for the target, which is none.
+// So many runs of a state of a sheet of s states go into its row; before the first, s stands for the target, which is none.
 fn read_runs(
     sheet: &[u8],
     at: usize,
     s: usize,
     count: usize,
-    base: usize,
-    targets: &mut [u8],
+    row: &mut [u8],
 ) -> Result<(usize, usize), Refusal>
-    requires { (1 ≤ s) × (s ≤ states) × (base + bytes ≤ length targets.old) }
+    requires { (1 ≤ s) × (s ≤ states) × (bytes ≤ length row.old) }
     ensures { LaysRow (read_runs sheet.now s count at) s
-        targets.old base targets.new result }
+        row.old 0 row.new result }
 {
     let mut place = at;
     let mut covered = 0;
@@ -37,7 +35,7 @@ fn read_runs(
         if target == before {
             return Err(Refusal::Runs(at_target));
         }
-        fill(targets, base + covered, base + end, target as u8);
+        row[covered..end].fill(target as u8);
         covered = end;
         before = target;
         place = next;
@@ -65,7 +63,8 @@ fn read_states(
         let (label, at_count) = number::read_field(sheet, place, 0, RULES)?;
         let (count, at_runs) = number::read_field(sheet, at_count, 1, BYTES)?;
         labels[i] = label as u8;
-        let (_, next) = read_runs(sheet, at_runs, s, count, i * BYTES, targets)?;
+        let row = &mut targets[i * BYTES..i * BYTES + BYTES];
+        let (_, next) = read_runs(sheet, at_runs, s, count, row)?;
         place = next;
     }
     Ok((s, place))

@@ -16,6 +16,7 @@ use vector::layout::NOTHING_CELL;
 use vector::{Derived, Vector};
 
 // A book's `n` rules in normal form, put behind the `k` terms of a vector that the pool holds already; None where a rule or a part of one is too long.
+// Kept as a loop of its own beside that of `derive_vector`: a closure's contract for what makes the term would be longer than these lines.
 pub fn add_rules(
     book: &[u8],
     n: usize,

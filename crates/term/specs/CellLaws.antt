@@ -1,18 +1,17 @@
 -- Laws of cells, proved: a stored node is read back, and a term below top stays what it is however the cells above change.
 -- Callers go by `found`, `frame` and the laws of growth and of what was made; none looks into a cell.
-use Rattle.std.specs.Prelude.{ℕ, zero, suc, ◌+◌, ◌/◌, ◌%◌, ◌<◌, ◌≤◌, ◌≡◌, refl, Bool, true, false, List, [], ◌∷◌, ◌≢◌, eqb, length, get_or, set}
-use Rattle.std.proofs.Common.{arith, sym, ap, subst, ◌∙◌, length-set, get_or-set_same, get_or-set_other, below_more}
+use Rattle.std.specs.Prelude.{ℕ, zero, suc, ◌+◌, ◌/◌, ◌%◌, ◌<◌, ◌≤◌, ◌≡◌, refl, Bool, true, false, List, ◌≢◌, eqb, length, get_or, set}
+use Rattle.std.proofs.Common.{arith, sym, ap, ◌∙◌, length-set, get_or-set_same, get_or-set_other, below_more}
 use mir.Val.{bool_byte}
 use Rattle.number.specs.Limits.{work_cells}
 use Rattle.meaning.specs.Re.{Re, is_nothing, is_empty}
-use Rattle.meaning.specs.PartLaws.{All}
 use Rattle.meaning.specs.Derive.{nullable}
 use Rattle.term.specs.declared.Term.{Term}
 use Rattle.term.specs.declared.Term.TheVariants.{Nothing, Empty, Range, Cat, Alt, Star, And, Not}
 use Rattle.term.specs.Cells.{field_size, kind_size, first, second, bit_place, link_of, empty_of, node_of, grow, term_by, term, Below, Layered, Sound}
 use Rattle.term.specs.Area.{Wasted, GrownFree, Grown, Room, MakesFree, Makes}
-use Rattle.term.specs.Nodes.{kind_of, first_of, second_of, children_of, Fields, cell_of, nothing_node, empty_node, Found, Over, Held}
-use Rattle.term.specs.ReadLaws.{kind_most, rebuild, below_children, grow_agree}
+use Rattle.term.specs.Nodes.{kind_of, first_of, second_of, Fields, cell_of, nothing_node, empty_node, Found, Held}
+use Rattle.term.specs.ReadLaws.{kind_most, rebuild, grow_agree}
 
 -- ---- a cell gives its node back
 
@@ -151,14 +150,6 @@ sound_less less ok h =
       room = omega arith;
       small = ok.small;
     }
-
--- so the children of a node that stands over sound cells can be read
-pub over_children : {s : List ℕ} {u : Term} (w : Term) → Over s u → u ≡ w → All (λ j. Sound s (j + 1)) (children_of w)
-over_children {s} w o e = go (children_of w) (below_children w o.top (subst (λ (v : Term). Below v o.top) e o.below))
-  where
-    go : (js : List ℕ) → All (λ j. j < o.top) js → All (λ j. Sound s (j + 1)) js
-    go [] h = tt
-    go (j ∷ js) h = (sound_less (j + 1) o.sound (omega (arith, h.0)), go js h.1)
 
 pub grown_refl : {free : ℕ} {s : List ℕ} {top : ℕ} → Sound s top → GrownFree free s top s top
 grown_refl ok =

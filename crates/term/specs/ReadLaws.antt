@@ -1,15 +1,13 @@
--- Laws for the functions that read a term off its nodes, one for each of their returns: size, the empty text, order.
+-- Laws for the functions that read a term off its nodes, one for each of their returns: size, order.
 -- Each says what the term's answer is by the answers of its children, over what reading the node told.
 use Prim.Native.Nat.{Ordering}
 use Prim.Native.Nat.{ℕ, ◌+◌, ◌<◌, ◌≤◌, compare}
 use Rattle.std.proofs.Common.{arith, sym, ap, ◌∙◌}
-use Rattle.std.specs.Prelude.{◌≡◌, refl, true, false, not, ◌&&◌, List, [], ◌∷◌, map, take}
+use Rattle.std.specs.Prelude.{◌≡◌, refl, List, [], ◌∷◌, map, take}
 use Rattle.meaning.specs.Re.{Re, parts, size, sizes}
 use Rattle.meaning.specs.PartLaws.{All, size_parts}
 use Rattle.meaning.specs.Order.{order, also, rank}
-use Rattle.meaning.specs.OrderLaws.{compared, compare_is, also_eq, order_parts, order_no_parts, order_one_part, order_two_parts, order_self}
-use Rattle.meaning.specs.OrderLaws.Compared.{less, equal, more}
-use Rattle.meaning.specs.Derive.{nullable}
+use Rattle.meaning.specs.OrderLaws.{also_eq, order_no_parts, order_one_part, order_two_parts, order_self}
 use Rattle.term.specs.declared.Term.{Term}
 use Rattle.term.specs.declared.Term.TheVariants.{Nothing, Empty, Range, Cat, Alt, Star, And, Not}
 use Rattle.term.specs.Cells.{kind_size, rebuilt, grow, term, Below}
@@ -184,59 +182,11 @@ module _ {s : List ℕ} {i a : ℕ} where
   unfolding sizes
   two_size p = omega (arith, rw (p.is, sizes) at (size_parts (term s i)))
 
--- ---- the empty text
-
-module _ (f : ℕ → Re) {u : Term} where
-  pub nothing_null : u ≡ Nothing → false ≡ nullable (grow u f)
-  unfolding nullable
-  nothing_null e = rw e
-
-  pub empty_null : u ≡ Empty → true ≡ nullable (grow u f)
-  unfolding nullable
-  empty_null e = rw e
-
-  pub range_null : {lo hi : ℕ} → u ≡ Range lo hi → false ≡ nullable (grow u f)
-  unfolding nullable
-  range_null e = rw e
-
-  pub star_null : {a : ℕ} → u ≡ Star a → true ≡ nullable (grow u f)
-  unfolding nullable
-  star_null e = rw e
-
-  pub cat_null : {a b : ℕ} → u ≡ Cat a b → (nullable (f a) && nullable (f b)) ≡ nullable (grow u f)
-  unfolding nullable
-  cat_null e = rw e
-
-  pub and_null : {a b : ℕ} → u ≡ And a b → (nullable (f a) && nullable (f b)) ≡ nullable (grow u f)
-  unfolding nullable
-  and_null e = rw e
-
-  pub not_null : {a : ℕ} → u ≡ Not a → not (nullable (f a)) ≡ nullable (grow u f)
-  unfolding nullable
-  not_null e = rw e
-
-  pub alt_null_on : {a b : ℕ} → u ≡ Alt a b → nullable (f a) ≡ true → true ≡ nullable (grow u f)
-  unfolding nullable
-  alt_null_on e d = rw (e, d)
-
-  pub alt_null_off : {a b : ℕ} → u ≡ Alt a b → nullable (f a) ≡ false → nullable (f b) ≡ nullable (grow u f)
-  unfolding nullable
-  alt_null_off e d = rw (e, d)
-
 -- a node whose kind was told is the one of that kind over its fields
 pub found_kind : {s : List ℕ} {i : ℕ} {u : Term} {k x y : ℕ} → Found s i u → kind_of u ≡ k → x ≡ first_of u → y ≡ second_of u → Found s i (rebuilt k x y)
 found_kind {s} {i} {u} {k} {x} {y} f e p q = found_as (rebuilt k x y) f (rw (p, q) (of_kind u k e))
 
 -- ---- order
-
-pub compare_less : (m n : ℕ) → m < n → compare m n ≡ Ordering.lt
-compare_less m n h = compare_is (compared m n) (less h)
-
-pub compare_more : (m n : ℕ) → n < m → compare m n ≡ Ordering.gt
-compare_more m n h = compare_is (compared m n) (more h)
-
-pub compare_same : (m n : ℕ) → m ≡ n → compare m n ≡ Ordering.eq
-compare_same m n h = compare_is (compared m n) (equal h)
 
 -- leaves of one kind by their fields, which are 0 where they have no bounds
 order_leaves : (u v : Term) (f : ℕ → Re) (a b a' b' : ℕ) → kind_of u ≡ kind_of v → arity_of u ≡ 0
@@ -261,12 +211,6 @@ order_one s i j e = rw e (order_self (term s j))
 module _ {s : List ℕ} {i j : ℕ} {u v : Term} (x : Found s i u) (y : Found s j v) where
   pub ranks : compare (rank (term s i)) (rank (term s j)) ≡ compare (kind_of u) (kind_of v)
   ranks = rw (x.is, y.is, rank_grow u (term s), rank_grow v (term s))
-
-  pub order_less : kind_of u < kind_of v → order (term s i) (term s j) ≡ Ordering.lt
-  order_less h = order_parts (term s i) (term s j) ∙ rw (ranks, compare_less (kind_of u) (kind_of v) h)
-
-  pub order_more : kind_of v < kind_of u → order (term s i) (term s j) ≡ Ordering.gt
-  order_more h = order_parts (term s i) (term s j) ∙ rw (ranks, compare_more (kind_of u) (kind_of v) h)
 
   module _ (e : kind_of u ≡ kind_of v) where
     same_rank : rank (term s i) ≡ rank (term s j)

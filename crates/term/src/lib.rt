@@ -265,7 +265,7 @@ fn compare_pairs(a: usize, b: usize, c: usize, d: usize) -> Ordering
 }
 
 // What two nodes tell of the order of their terms: it is known, or it is that of their only children, or that of their first children
-// and then, where these are equal, of their second ones.
+// and then, where these are equal, of their second ones. Kept as an enum, since none of the three is a failure or a lack.
 #[derive(Clone, Copy)]
 enum Glance {
     Told(Ordering),
@@ -300,12 +300,15 @@ fn compare_nodes(cells: &[u64], i: usize, j: usize) -> Glance
 
 // Compares two terms, gone through in step from left to right: where two nodes have two children each, the places of the second ones
 // are listed as pairs, to be compared when the first ones were found equal.
+// Not put into its caller, whose frame would have the list at every comparison.
+#[inline(never)]
 fn compare_parts(cells: &[u64], i: usize, j: usize) -> Ordering
     requires sound { Sound cells.now (i + 1) }
     requires sound_2 { Sound cells.now (j + 1) }
     requires i_value { short (term cells.now i) ≡ true }
     ensures { ordering result ≡ order (term cells.now i) (term cells.now j) }
 {
+    // Kept as an array with its length beside, since no memory is taken from a heap.
     let mut pairs = [(0u16, 0u16); WAITING];
     let mut waiting = 0usize;
     let mut a = i;

@@ -7,7 +7,6 @@ ghost use Rattle.std.specs.Prelude.{◌≤◌, length};
 use lines::LINE_ROOM;
 use number::Refusal;
 use number::limits::TYPED_AREA;
-use table::Written;
 
 // Texts have numbers of three digits.
 const NUMBERS: usize = 1000;
@@ -55,25 +54,21 @@ fn say_book(rt: &HostRuntime, book: &[u8]) {
 
 // Says so if a byte of a part is not as it was.
 fn say_changed(rt: &HostRuntime, part: &[u8]) {
-    for byte in part {
-        if *byte != FILL {
-            say(rt, b"changed\n");
-            return;
-        }
+    if part.iter().any(|byte| *byte != FILL) {
+        say(rt, b"changed\n");
     }
 }
 
 // A text typed into an area.
 fn type_into(rt: &HostRuntime, text: &[u8], area: &mut [u8]) {
     match typing::type_rules(text, area) {
-        Written::Bytes(n) => {
+        Ok(n) => {
             if n <= area.len() {
-                say_book(rt, &area[0..n]);
-                let end = area.len();
-                say_changed(rt, &area[n..end]);
+                say_book(rt, &area[..n]);
+                say_changed(rt, &area[n..]);
             }
         }
-        Written::Unwritten(r) => {
+        Err(r) => {
             say_refused(rt, r);
             say_changed(rt, area);
         }

@@ -1,28 +1,13 @@
 -- Which answer a call's number and its error's number make, and how a transfer goes on by it, by the tests that the code makes.
 -- These lemmas are for proofs of functions; a reader of contracts needs none of them.
-use Rattle.std.specs.Prelude.{ℕ, zero, suc, ◌+◌, ◌-◌, ◌<◌, ◌≤◌, ◌≡◌, refl, Bool, true, false, not, cond, T, eqb, ltb, ℤ, pos, negsuc, nat_abs}
-use Rattle.std.proofs.Common.{arith, sym, ap, subst, ◌∙◌, eqb→eq, lt→ltb}
+use Rattle.std.specs.Prelude.{ℕ, zero, suc, ◌+◌, ◌-◌, ◌<◌, ◌≤◌, ◌≡◌, refl, Bool, true, false, not, cond, T, eqb, ltb, ℤ, pos, negsuc}
+use Rattle.std.proofs.Common.{arith, sym, ap, ◌∙◌, eqb→eq, lt→ltb}
 use Rattle.std.proofs.Math.Arith.{le→nltb}
-use Rattle.std.specs.Int.Signed.{lt_z, non_neg}
 use Rattle.transfer.specs.declared.Answer.{Answer}
 use Rattle.transfer.specs.declared.Answer.TheVariants.{Moved, Interrupted, Faulted}
 use Rattle.transfer.specs.declared.Transfer.{Transfer}
 use Rattle.transfer.specs.declared.Transfer.TheVariants.{Going, All}
-use Rattle.transfer.specs.Answers.{answer_of, of_error, again, go_on}
-
-pub above : (got : ℤ) → lt_z (pos 0) got ≡ true → T (non_neg got)
-above (pos n) e = tt
-above (negsuc n) e = absurd (subst T (sym e) tt)
-
-pub moved : (got error : ℤ) → lt_z (pos 0) got ≡ true → Moved (nat_abs got) ≡ answer_of got error
-moved (pos zero) error e = absurd (subst T (sym e) tt)
-moved (pos (suc n)) error e = refl
-moved (negsuc n) error e = absurd (subst T (sym e) tt)
-
-pub below : (got error : ℤ) → lt_z (pos 0) got ≡ false → (got ≡ pos 0 → ⊥) → of_error error ≡ answer_of got error
-below (pos zero) error up nought = absurd (nought refl)
-below (pos (suc n)) error up nought = absurd (subst T up (lt→ltb 0 (suc n) (omega arith)))
-below (negsuc n) error up nought = refl
+use Rattle.transfer.specs.Answers.{of_error, again, go_on}
 
 by_test : (b : Bool) → (T b → ⊥) → Faulted ≡ cond b Interrupted Faulted
 by_test true off = absurd (off tt)

@@ -34,16 +34,12 @@ pub enum Transfer {
 pub fn answer_of(got: isize, error: i32) -> Answer
     ensures { result ≡ answer_of got error }
 {
-    if got > 0 {
-        return Answer::Moved(got as usize);
+    match usize::try_from(got) {
+        Ok(0) => Answer::Nothing,
+        Ok(count) => Answer::Moved(count),
+        Err(_) if error == EINTR => Answer::Interrupted,
+        Err(_) => Answer::Faulted,
     }
-    if got == 0 {
-        return Answer::Nothing;
-    }
-    if error != EINTR {
-        return Answer::Faulted;
-    }
-    Answer::Interrupted
 }
 
 // How far a transfer has come by one more answer. The buffer has so much room, and so much of it has been moved.
@@ -75,9 +71,7 @@ pub fn taken(room: usize, transfer: Transfer) -> usize
 {
     match transfer {
         Transfer::Ended(count) => count,
-        Transfer::All => room,
-        Transfer::Failed => room,
-        Transfer::Going(_, _) => room,
+        _ => room,
     }
 }
 
@@ -85,10 +79,5 @@ pub fn taken(room: usize, transfer: Transfer) -> usize
 pub fn is_all(transfer: Transfer) -> bool
     ensures { result ≡ is_all transfer }
 {
-    match transfer {
-        Transfer::All => true,
-        Transfer::Ended(_) => false,
-        Transfer::Failed => false,
-        Transfer::Going(_, _) => false,
-    }
+    matches!(transfer, Transfer::All)
 }

@@ -1,8 +1,9 @@
 -- Laws of a turn: one for each step of the code that puts its lines, and one for each way that it can end.
 -- Records lie in cells; that their lines are the lines of the words is the first law.
-use Rattle.std.specs.Prelude.{ℕ, suc, ◌+◌, ◌-◌, ◌*◌, ◌/◌, ◌<◌, ◌≤◌, ◌≡◌, refl, Bool, true, false, cond, List, [], ◌∷◌, ◌++◌, length, get_or, drop, set, Result}
+use Rattle.std.specs.Simd.{first_chunks}
+use Rattle.std.specs.Prelude.{ℕ, zero, suc, take, ◌+◌, ◌-◌, ◌*◌, ◌/◌, ◌<◌, ◌≤◌, ◌≡◌, refl, Bool, true, false, cond, List, [], ◌∷◌, ◌++◌, length, get_or, drop, Result}
 use Rattle.std.proofs.Math.Decide.{dec_lt}
-use Rattle.std.proofs.Common.{add-zero, arith, sym, ap, ◌∙◌, append-nil, le-ltb, length-drop, get_or-drop, drop-drop, get_or-set_same, get_or-set_other}
+use Rattle.std.proofs.Common.{add-zero, arith, sym, ap, ◌∙◌, append-nil, le-ltb, length-drop, get_or-drop, get_or-take, drop-drop}
 use Rattle.std.proofs.Math.ListN.{get_or-eq_default}
 use Rattle.number.specs.declared.Refusal.{Refusal}
 use Rattle.number.specs.declared.Refusal.TheVariants.{Loaded}
@@ -34,17 +35,6 @@ use Rattle.turns.specs.Turned.{Kinds, kind_by, cell_lines, turn_lines, turn_of, 
 
 -- ---- kinds
 
--- one kind more
-pub kinds_more : (book kinds : List ℕ) (i x : ℕ) → i < length kinds → x ≡ kind_in book i
-    → ((j : ℕ) → j < i → get_or kinds j 0 ≡ kind_in book j) → (j : ℕ) → j < i + 1 → get_or (set kinds i x) j 0 ≡ kind_in book j
-kinds_more book kinds i x h e below j l =
-    elim (dec_lt j i) [
-      | yes less ↦ get_or-set_other kinds i j x 0 (λ (z : j ≡ i). omega arith) ∙ below j less
-      | no more ↦
-          let here : j ≡ i = omega arith in
-          rw here (get_or-set_same kinds i x 0 h ∙ e)
-    ]
-
 -- a book has no kinds past its rules, so that the list of the kinds of all rules is enough
 no_kind : (book : List ℕ) (i : ℕ) → rules ≤ i → kind_in book i ≡ 0
 no_kind book i h = go (read_book book) refl
@@ -70,6 +60,20 @@ unfolding cell_lines word_lines flat
 cells_words kinds [] rest = refl
 cells_words kinds (w ∷ ws) rest =
     ap (λ (l : List ℕ). word_line w.start w.len w.rule (kinds w.rule) ++ l) (cells_words kinds ws rest)
+
+-- a number of a record, where the records are taken one by one
+chunk_at : (n m : ℕ) (xs : List ℕ) (i j : ℕ) → i < m → j < n → get_or (get_or (first_chunks n m xs) i []) j 0 ≡ get_or xs (n * i + j) 0
+chunk_at n zero xs i j l h = absurd (omega arith)
+chunk_at n (suc m) xs zero j l h = let first : n * 0 + j ≡ j = omega arith in rw first (get_or-take n xs j 0 h)
+chunk_at n (suc m) xs (suc i) j l h =
+    let place : n + (n * i + j) ≡ n * suc i + j = omega arith in
+    chunk_at n m (drop n xs) i j (omega arith) h ∙ get_or-drop n xs (n * i + j) 0 ∙ ap (λ (k : ℕ). get_or xs k 0) place
+
+pub record_at : (cells : List ℕ) {chunks : List (List ℕ)} {m : ℕ} (count k j : ℕ) → chunks ≡ first_chunks record_cells m cells → k < count → count ≤ m
+    → j < record_cells → get_or (get_or (take count chunks) k []) j 0 ≡ get_or cells (record_cells * k + j) 0
+record_at cells {chunks} {m} count k j e l few h =
+    ap (λ (x : List ℕ). get_or x j 0) (get_or-take count chunks k [] l)
+    ∙ ap (λ (x : List (List ℕ)). get_or (get_or x k []) j 0) e ∙ chunk_at record_cells m cells k j (omega arith) h
 
 -- no record left, and one before the others
 pub lines_none : (kinds : ℕ → ℕ) (cells s : List ℕ) (left at : ℕ) → left ≡ 0 → Writes (cell_lines kinds cells left) s s at at

@@ -52,12 +52,11 @@ fn put_words(records: &[usize], kinds: &[usize], count: usize, out: &mut [u8]) -
     ensures writes { Writes (cell_lines (kind_by kinds.now) records.now count) out.old out.new 0 result }
     ensures upper_bound { result ≤ line_room * count }
 {
+    let (records, _) = records.as_chunks::<RECORD_CELLS>();
     let mut end: usize = 0;
-    for k in 0..count {
-        let cell = RECORD_CELLS * k;
-        let rule = records[cell + 2];
+    for &[start, len, rule] in &records[..count] {
         let kind = kind_at(kinds, rule);
-        end = lines::put_word(records[cell], records[cell + 1], rule, kind, out, end);
+        end = lines::put_word(start, len, rule, kind, out, end);
     }
     end
 }

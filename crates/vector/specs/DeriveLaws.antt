@@ -2,6 +2,7 @@
 -- One law for each of the code's steps: a place more is done, or its term is too long.
 use Rattle.std.specs.Prelude.{ℕ, zero, suc, ◌+◌, ◌*◌, ◌<◌, ◌≤◌, ◌≡◌, refl, true, Option, None, List, [], ◌∷◌, ◌++◌, length, get_or, take, set}
 use Rattle.std.proofs.Common.{add-one, arith, sym, ap, ◌∙◌, take-suc}
+use Rattle.std.proofs.lemmas.List.{map-append}
 use Rattle.number.specs.Limits.{rules, tree_nodes, pool}
 use Rattle.meaning.specs.Re.{Re, size}
 use Rattle.meaning.specs.Re.Re.{Nothing}
@@ -28,7 +29,7 @@ use Rattle.vector.specs.Layout.{nothing_cell}
 use Rattle.vector.specs.Vectors.{vector_of}
 use Rattle.vector.specs.Promises.{Derivable, Done, Spared}
 use Rattle.vector.specs.PlaceLaws.{vector_length, vector_at}
-use Rattle.vector.specs.PutLaws.{map_snoc, with_snoc, Puts, More, term_puts, term_more}
+use Rattle.vector.specs.PutLaws.{with_snoc, Puts, More, term_puts, term_more}
 
 -- ---- the terms of a derived vector
 
@@ -68,7 +69,7 @@ derived_long c (r ∷ rs) (suc k) h e = rw (derived_long c rs k (omega arith) e)
     front_long (Fits x) = refl
 
 vector_next : (s : List ℕ) (i : ℕ) (v : List ℕ) → i < length v → vector_of s (i + 1) v ≡ vector_of s i v ++ (term s (get_or v i 0) ∷ [])
-vector_next s i v h = rw (add-one, take-suc v i 0 h) (map_snoc (term s) (take i v) (get_or v i 0))
+vector_next s i v h = rw (add-one, take-suc v i 0 h) (map-append (term s) (take i v) (get_or v i 0 ∷ []))
 
 -- ---- the loop over the places
 

@@ -1,9 +1,10 @@
 -- Laws for loops that go over a vector place by place: what held of the places passed holds of one more.
 -- The terms of a vector by place, its label and its next edge too.
-use Rattle.std.specs.Prelude.{ℕ, zero, suc, ◌+◌, ◌-◌, ◌<◌, ◌≤◌, min, ◌≡◌, refl, Bool, true, false, cond, List, [], ◌∷◌, map, get_or, take, drop, set}
+use Rattle.std.specs.Prelude.{ℕ, suc, ◌+◌, ◌-◌, ◌<◌, ◌≤◌, min, ◌≡◌, Bool, true, false, cond, List, get_or, take, drop, set}
 use Rattle.std.proofs.Common.{add-one, arith, subst, ◌∙◌, below_more, length-drop, take-suc, take-suc-set, get_or-drop, get_or-take, drop-cons, length-take-le, get_or-set_same, get_or-set_other}
+use Rattle.std.proofs.lemmas.List.{length-map, get_or-map}
 use Rattle.std.proofs.Math.Path.{sym, ap}
-use Rattle.std.proofs.Math.ListN.{length}
+use Rattle.std.proofs.Math.ListN.{length, drop_of_length-le}
 use Rattle.std.proofs.Math.Seq.{paste, paste-suc}
 use Rattle.number.specs.Limits.{bytes}
 use Rattle.meaning.specs.Re.{Re}
@@ -40,26 +41,11 @@ pasted_more s y s' at i h k e = rw (e, add-one, paste-suc s at y i 0 h k)
 
 -- ---- terms of a vector
 
-map_length : (f : ℕ → Re) (v : List ℕ) → length (map f v) ≡ length v
-map_length f [] = refl
-map_length f (x ∷ v) = ap suc (map_length f v)
-
-map_at : (f : ℕ → Re) (v : List ℕ) (i : ℕ) → i < length v → get_or (map f v) i Nothing ≡ f (get_or v i 0)
-map_at f [] i h = absurd (omega arith)
-map_at f (x ∷ v) zero h = refl
-map_at f (x ∷ v) (suc i) h = map_at f v i (omega arith)
-
 pub vector_length : (s : List ℕ) (n : ℕ) (v : List ℕ) → n ≤ length v → length (vector_of s n v) ≡ n
-vector_length s n v h = map_length (term s) (take n v) ∙ length-take-le n v h
+vector_length s n v h = length-map (take n v) (term s) ∙ length-take-le n v h
 
 pub vector_at : (s : List ℕ) (n : ℕ) (v : List ℕ) (i : ℕ) → n ≤ length v → i < n → get_or (vector_of s n v) i Nothing ≡ term s (get_or v i 0)
-vector_at s n v i h k = map_at (term s) (take n v) i (omega (arith, length-take-le n v h)) ∙ ap (term s) (get_or-take n v i 0 k)
-
-drop_none : (w : List Re) (i : ℕ) → length w ≤ i → drop i w ≡ []
-drop_none [] zero h = refl
-drop_none [] (suc i) h = refl
-drop_none (x ∷ w) zero h = absurd (omega arith)
-drop_none (x ∷ w) (suc i) h = drop_none w i (omega arith)
+vector_at s n v i h k = get_or-map (term s) (take n v) i 0 Nothing (omega (arith, length-take-le n v h)) ∙ ap (term s) (get_or-take n v i 0 k)
 
 -- ---- the label of a part: that of what remains is that of the whole part, until a term matches the empty text
 
@@ -96,7 +82,7 @@ module _ (s : List ℕ) (from to : ℕ) (v : List ℕ) where
     unfolding label_from
     label_none l =
         let e : length terms ≡ to = vector_length s to v long in
-        sym (l ∙ rw (drop_none terms to (omega arith), label_from))
+        sym (l ∙ rw (drop_of_length-le terms {i = to} (omega arith), label_from))
 
 -- ---- its next edge: the least of those passed and those that remain
 
@@ -122,5 +108,5 @@ module _ (s : List ℕ) (n : ℕ) (v : List ℕ) (byte i least edge : ℕ) (ok :
 pub least_last : (s : List ℕ) (n : ℕ) (v : List ℕ) (byte least : ℕ) → Reads s n v → Least s n v byte n least → least ≡ next_edge_all byte (vector_of s n v)
 least_last s n v byte least ok l =
     let k : length (vector_of s n v) ≡ n = vector_length s n v (omega (arith, ok.whole, ok.few_rules)) in
-    let e : next_edge_all byte (drop n (vector_of s n v)) ≡ bytes = rw (drop_none (vector_of s n v) n (omega arith)) (edge_none byte) in
+    let e : next_edge_all byte (drop n (vector_of s n v)) ≡ bytes = rw (drop_of_length-le (vector_of s n v) {i = n} (omega arith)) (edge_none byte) in
     omega (arith, l.whole, l.most)

@@ -1,7 +1,8 @@
 -- Laws for one place more of a vector: its term, made in scratch above the pool, is put into the pool.
 -- The pool then holds it with all its parts, in shape, and the vector has one number more; so are vectors derived, and vector 0 made.
-use Rattle.std.specs.Prelude.{ℕ, ◌+◌, ◌<◌, ◌≤◌, ◌≡◌, refl, true, List, [], ◌∷◌, ◌++◌, map, length, take, set}
+use Rattle.std.specs.Prelude.{ℕ, ◌+◌, ◌<◌, ◌≤◌, ◌≡◌, refl, true, List, [], ◌∷◌, ◌++◌, length, take, set}
 use Rattle.std.proofs.Common.{add-one, arith, ap, ◌∙◌, inl, inr, le-leb, length-set, take-suc-set, get_or-set_other}
+use Rattle.std.proofs.lemmas.List.{map-append}
 use Rattle.number.specs.Limits.{rules, tree_nodes}
 use Rattle.meaning.specs.Re.{Re, parts, size, sizes}
 use Rattle.meaning.specs.Re.Re.{Nothing, Empty, Range, Cat, Alt, Star, And, Not}
@@ -67,12 +68,8 @@ unfolding with_vector
 with_snoc p [] x = refl
 with_snoc p (r ∷ xs) x = with_snoc (with_parts p r) xs x
 
-pub map_snoc : (f : ℕ → Re) (xs : List ℕ) (x : ℕ) → map f (xs ++ (x ∷ [])) ≡ map f xs ++ (f x ∷ [])
-map_snoc f [] x = refl
-map_snoc f (y ∷ xs) x = ap (λ (l : List Re). f y ∷ l) (map_snoc f xs x)
-
 vector_set : (s : List ℕ) (i : ℕ) (w : List ℕ) (a : ℕ) → i < length w → vector_of s (i + 1) (set w i a) ≡ vector_of s i w ++ (term s a ∷ [])
-vector_set s i w a h = rw (add-one, take-suc-set w i a h) (map_snoc (term s) (take i w) a)
+vector_set s i w a h = rw (add-one, take-suc-set w i a h) (map-append (term s) (take i w) (a ∷ []))
 
 -- ---- a term is put into the pool
 

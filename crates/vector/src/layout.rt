@@ -1,5 +1,7 @@
 // How the work area is laid out; specs/Layout.antt says what each part is for and holds the same numbers for the definitions.
 // The length is the one that build and compare ask for.
+// Kept as parts of one array of cells and not as an array of items, since the caller lends the work area as one (include/lubiranguk.h),
+// and what an item holds is told of these places (`item_of` of specs/Memory.antt).
 use number::limits::{PAIRS, RULES, SCRATCH};
 use pool::POOL_CELLS;
 

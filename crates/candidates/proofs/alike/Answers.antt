@@ -1,14 +1,12 @@
 -- `candidates::alike` meets its contract: one law a return.
 -- Assumes nothing.
-use mathlib.Core.Bool.{not}
-use mathlib.Core.Path.{ap}
 use mathlib.Core.Path.{sym, ◌∙◌}
-use borrow.Author.Tests.{not-true, not-false}
-use Rattle.candidates.specs.RunLaws.{alike_not, alike_next}
+use Rattle.std.proofs.Common.{true}
+use Rattle.candidates.specs.RunLaws.{alike_both, alike_not}
 use Rattle.candidates.proofs.alike.Goals as goal
 
-pub returns-then-not-is_bare : goal.returns-then-not-is_bare
-returns-then-not-is_bare c = alike_not _ (sym (not-true c.is_bare.result (ap not c.if-not-is_bare.true)) ∙ c.is_bare.ensures)
+pub returns-then-is_bare : goal.returns-then-is_bare
+returns-then-is_bare c = alike_both c.args.c true _ (sym c.if-is_bare.true ∙ c.is_bare.ensures) c.is_bare-then-is_bare.ensures
 
-pub returns : goal.returns
-returns c = alike_next _ _ (sym (not-false c.is_bare.result (ap not c.if-not-is_bare.false)) ∙ c.is_bare.ensures) c.is_bare-2.ensures
+pub returns-else-is_bare : goal.returns-else-is_bare
+returns-else-is_bare c = alike_not c.args.c _ c.is_bare.ensures c.if-is_bare.false

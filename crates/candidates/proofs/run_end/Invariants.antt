@@ -1,11 +1,7 @@
 -- `candidates::run_end` meets its contract: the flags from the run's first up to hi are up, and each but the last has a neighbour.
 -- Assumes nothing.
-use Prim.Native.Nat.{◌-◌}
 use Rattle.candidates.specs.RunLaws.{UpTo}
 use Rattle.candidates.proofs.run_end.Given as goal
 
 abbrev pub invariant-loop-hi : goal.invariant-loop-hi
 invariant-loop-hi l = UpTo l.found l.lo l.hi
-
-abbrev pub decreases-loop-hi : goal.decreases-loop-hi
-decreases-loop-hi l = 256 - l.hi

@@ -3,6 +3,7 @@
 use native.Mathlib.Omega.{arith}
 use mathlib.Core.Path.{◌≡◌, refl, sym, ap, ◌∙◌}
 use mathlib.Core.Bool.{true}
+use Rattle.std.proofs.lemmas.Result.{err_from_is_err_and}
 use Rattle.number.specs.Refused.Outcome.{gives}
 use Rattle.book.specs.Reads.{read_book}
 use Rattle.book.specs.Calls.{checked, size_of}
@@ -36,16 +37,17 @@ slice_bounds-ts-end c =
 pub compare_rules-requires : goal.compare_rules-requires
 compare_rules-requires c =
     let well : (true ≡ well_formed c.args.count c.args.labels.now c.args.targets.now) = sym c.if-not-well_formed.false ∙ c.well_formed-2.ensures.answer in
-    let counts : (size_of (read_book c.args.book.now) ≡ gives (record { rules = c.in-Counts.n; nodes = c.in-Counts.field-1 })) = sym c.check_book-checked.ensures.answer ∙ ap checked c.in-Counts.is in
+    let counts : (size_of (read_book c.args.book.now) ≡ gives (record { rules = c.in_ok-n.n; nodes = c.in_ok-n.field-0-1 })) = sym c.check_book.ensures.answer ∙ ap checked c.in_ok-n.was in
     loaded_comparable _ _ _ _ _ c.requires.blank well _ _ counts _ _ refl refl _ c.requires.work_length_in_bounds c.requires.cells_len_bound
 
-pub returns-in-Refused : goal.returns-in-Refused
-returns-in-Refused c =
+pub returns-in_err-n : goal.returns-in_err-n
+returns-in_err-n c =
+    let told = err_from_is_err_and c.from_residual.result c.from_residual.ensures.1 in
     let well : (true ≡ well_formed c.args.count c.args.labels.now c.args.targets.now) = sym c.if-not-well_formed.false ∙ c.well_formed-2.ensures.answer in
-    loaded_refused _ _ _ _ _ c.requires.blank well _ (sym c.check_book-checked.ensures.answer ∙ ap checked c.in-Refused.is)
+    rw (told.1, told.2) (loaded_refused _ _ _ _ _ c.requires.blank well _ (sym c.check_book.ensures.answer ∙ ap checked c.in_err-n.was))
 
-pub returns-in-Counts : goal.returns-in-Counts
-returns-in-Counts c =
+pub returns : goal.returns
+returns c =
     let well : (true ≡ well_formed c.args.count c.args.labels.now c.args.targets.now) = sym c.if-not-well_formed.false ∙ c.well_formed-2.ensures.answer in
-    let counts : (size_of (read_book c.args.book.now) ≡ gives (record { rules = c.in-Counts.n; nodes = c.in-Counts.field-1 })) = sym c.check_book-checked.ensures.answer ∙ ap checked c.in-Counts.is in
+    let counts : (size_of (read_book c.args.book.now) ≡ gives (record { rules = c.in_ok-n.n; nodes = c.in_ok-n.field-0-1 })) = sym c.check_book.ensures.answer ∙ ap checked c.in_ok-n.was in
     loaded_compared _ _ _ _ _ c.requires.blank well _ _ counts _ _ refl refl _ _ c.compare_rules.ensures

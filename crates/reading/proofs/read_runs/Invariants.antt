@@ -1,9 +1,7 @@
 -- `reading::read_runs` meets its contract: what the runs to come leave is what was asked, by one law of reading a row a way through a turn.
 -- Assumes nothing.
-use Prim.Native.Nat.{ℕ, ◌+◌, ◌-◌, ◌≤◌}
-use mathlib.Core.Path.{◌≡◌}
+use Prim.Native.Nat.{ℕ, ◌-◌, ◌≤◌}
 use mathlib.Core.List.{List}
-use lib.ListN.{length}
 use Rattle.std.specs.Prelude.{Result}
 use Rattle.number.specs.declared.Refusal.{Refusal}
 use Rattle.number.specs.Limits.{bytes}
@@ -14,6 +12,6 @@ use Rattle.reading.proofs.read_runs.Given as goal
 -- whatever the rest of the row leaves and answers, the whole row does
 abbrev pub invariant-loop : goal.invariant-loop
 invariant-loop l =
-    (l.covered ≤ bytes) × (length l.targets ≡ length l.initial.targets)
-    × ((t : List ℕ) (r : Result (ℕ × ℕ) Refusal) → LaysRow (more_runs l.sheet l.s (l.count - l.counter) l.covered l.before l.place) l.s l.targets (l.base + l.covered) t r
-    → LaysRow (read_runs l.sheet l.s l.count l.at) l.s l.initial.targets l.base t r)
+    (l.covered ≤ bytes)
+    × ((t : List ℕ) (r : Result (ℕ × ℕ) Refusal) → LaysRow (more_runs l.sheet l.s (l.count - l.counter) l.covered l.before l.place) l.s l.row l.covered t r
+    → LaysRow (read_runs l.sheet l.s l.count l.at) l.s l.initial.row 0 t r)

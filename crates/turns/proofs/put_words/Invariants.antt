@@ -9,7 +9,8 @@ use Rattle.lines.specs.LineLaws.{Leads}
 use Rattle.turns.specs.Turned.{kind_by, cell_lines}
 use Rattle.turns.proofs.put_words.Given as goal
 
-abbrev pub invariant-loop-k : goal.invariant-loop-k
-invariant-loop-k l =
-    (length l.out ≡ length l.initial.out) × (l.end ≤ line_room * l.k)
-    × Leads (cell_lines (kind_by l.kinds) l.records l.count) l.initial.out 0 (cell_lines (kind_by l.kinds) (drop (record_cells * l.k) l.records) (l.count - l.k)) l.out l.end
+abbrev pub invariant-loop-start : goal.invariant-loop-start
+invariant-loop-start l =
+    (length l.out ≡ length l.initial.out) × (l.end ≤ line_room * l.start-index)
+    × Leads (cell_lines (kind_by l.kinds) l.records l.count) l.initial.out 0
+    (cell_lines (kind_by l.kinds) (drop (record_cells * l.start-index) l.records) (l.count - l.start-index)) l.out l.end
