@@ -9,5 +9,5 @@ fn main(rt: HostRuntime) {
     let mut text = [0u8; TEXT_FILE + 1];
     let book_end = files::read_named(&rt, b"words.book", &mut book);
     let text_end = files::read_all(Ok(rt.stdin()), &mut text);
-    printed::print_cut(&rt, &book[0..book_end], &text[0..text_end]);
+    let _ = printed::print_cut(&rt, &book[0..book_end], &text[0..text_end]);
 }

@@ -1,12 +1,11 @@
 -- Laws of what was handed over: nothing at first, then one part more, and at the end all of it. A part at the buffer's front is what is due.
 -- What was handed over before a write that failed is not the whole, since something is always left to print.
-use Rattle.std.specs.Prelude.{ℕ, ◌+◌, ◌-◌, ◌<◌, ◌≡◌, refl, List, [], ◌∷◌, ◌++◌, length, take, drop}
+use Rattle.std.specs.Prelude.{ℕ, ◌+◌, ◌-◌, ◌<◌, ◌≡◌, refl, Result, Ok, Err, List, [], ◌∷◌, ◌++◌, length, take, drop}
 use Rattle.std.proofs.Common.{arith, sym, ap, ◌∙◌, append_assoc, length-append, drop_at, drop-drop, take-add}
 use Rattle.std.proofs.Math.Seq.{take-append_seam}
 use Rattle.cut_lines.specs.Parts.{Part}
 use Rattle.cut_lines.proofs.PartLaws.{part_front}
-use Rattle.printed.specs.declared.Handed.{Handed}
-use Rattle.printed.specs.declared.Handed.TheVariants.{All, Less}
+use Rattle.printed.specs.declared.Failed.{Failed}
 use Rattle.printed.specs.Handed.{Due, Next, Counts, Over, joined, EachDue}
 
 pub over_none : (whole : List ℕ) → Over whole 0 whole
@@ -48,10 +47,10 @@ over_all : {whole : List ℕ} {n : ℕ} → Over whole n [] → n ≡ length who
 over_all over = rw over.makes (simp length-append (omega (arith, over.count)))
 
 -- the last part, by what became of it
-pub over_last : {whole rest o o' : List ℕ} {n end : ℕ} (r : Handed) → Over whole n rest → 0 < length rest → Part rest o o' end []
+pub over_last : {whole rest o o' : List ℕ} {n end : ℕ} (r : Result ℕ Failed) → Over whole n rest → 0 < length rest → Part rest o o' end []
     → Next n (length (front o' end)) r → Counts whole r
-over_last (All m) over some part e = omega (arith, e, front_length part, over_all (over_more part over))
-over_last (Less m) over some part e = omega (arith, e, over_less over some)
+over_last (Ok m) over some part e = omega (arith, e, front_length part, over_all (over_more part over))
+over_last (Err failed) over some part e = omega (arith, e, over_less over some)
 
 -- parts that are due one after the other stand in the whole as they were handed over
 pub joined_due : (whole : List ℕ) (n : ℕ) (parts : List (List ℕ)) → EachDue whole n parts → take (length (joined parts)) (drop n whole) ≡ joined parts

@@ -10,17 +10,16 @@ ghost use Rattle.turns.specs.Turned.{kind_by};
 ghost use Rattle.cut_lines.specs.Rest.{rest_lines};
 ghost use Rattle.printed.specs.Handed.{Due, Next, Counts};
 
-use cut_lines::{Begun, CUT_ROOM, TURN_CELLS};
+use cut_lines::{CUT_ROOM, TURN_CELLS};
 use number::limits::{RULES, STATES, TABLE_CELLS};
 use turns::Turn;
 use vector::layout::WORK_LENGTH;
 
-// So many bytes were written to standard output: all that there were to print; or fewer, and then a write failed. Of the bytes of that write none
-// is counted, since only the system knows how many of them were written.
-#[derive(Clone, Copy)]
-pub enum Handed {
-    All(usize),
-    Less(usize),
+// A write to standard output failed behind so many bytes. Of the bytes of that write none is counted, since only the system knows how many of them
+// were written.
+#[derive(Clone, Copy, PartialEq, Eq)]
+pub struct Failed {
+    pub printed: usize,
 }
 
 // Prints the bytes that are due behind so many others, and answers how many were printed by then. Book and text are handed in for the promise,
@@ -31,15 +30,15 @@ fn print_next<'a, P: Print + Eprint>(
     text: &'a [u8],
     before: usize,
     part: &[u8],
-) -> Handed
+) -> Result<usize, Failed>
     requires due { Due (cut_print book.now text.now) before part.now }
     requires part_bound { before + length part.now < 2 ^ 64 }
     ensures { Next before (length part.now) result }
 {
     if transfer::is_all(files::print(rt, part)) {
-        return Handed::All(before + part.len());
+        return Ok(before + part.len());
     }
-    Handed::Less(before)
+    Err(Failed { printed: before })
 }
 
 // Prints turn after turn. Every turn but the last takes a byte of the text at least.
@@ -53,7 +52,7 @@ fn print_turns<'a, P: Print + Eprint>(
     kinds: &[usize],
     records: &mut [usize],
     out: &mut [u8],
-) -> Handed
+) -> Result<usize, Failed>
     requires text_value { rest_lines (kind_by kinds.now) count labels.now targets.now text.now 0 0 ≡ cut_print book.now text.now }
     requires text_len_bound { length text.now ≤ text_file }
     requires records_len { length records.old ≡ record_cells * turn_words }
@@ -67,22 +66,21 @@ fn print_turns<'a, P: Print + Eprint>(
         match cut_lines::next_part(count, labels, targets, text, from, sum, kinds, records, out) {
             Turn::Last(end) => return print_next(rt, book, text, handed, &out[0..end]),
             Turn::Onward(next, more, end) => {
-                match print_next(rt, book, text, handed, &out[0..end]) {
-                    Handed::Less(n) => return Handed::Less(n),
-                    Handed::All(n) => {
-                        from = next;
-                        sum = more;
-                        handed = n;
-                    }
-                }
+                handed = print_next(rt, book, text, handed, &out[0..end])?;
+                from = next;
+                sum = more;
             }
         }
     }
 }
 
-// Prints all that program cut prints for the bytes of its book and of its text; more bytes than a file may have stand for one that is missing or
+// Prints all that program cut prints for the bytes of its book and of its text, and answers how many that is; more bytes than a file may have stand for one that is missing or
 // too long.
-pub fn print_cut<'a, P: Print + Eprint>(rt: &P, book: &'a [u8], text: &'a [u8]) -> Handed
+pub fn print_cut<'a, P: Print + Eprint>(
+    rt: &P,
+    book: &'a [u8],
+    text: &'a [u8],
+) -> Result<usize, Failed>
     ensures { Counts (cut_print book.now text.now) result }
 {
     let mut labels = [0u8; STATES];
@@ -100,8 +98,8 @@ pub fn print_cut<'a, P: Print + Eprint>(rt: &P, book: &'a [u8], text: &'a [u8]) 
         &mut kinds,
         &mut out,
     ) {
-        Begun::Told(end) => print_next(rt, book, text, 0, &out[0..end]),
-        Begun::States(count) => {
+        Err(told) => print_next(rt, book, text, 0, &out[0..told.end]),
+        Ok(count) => {
             print_turns(
                 rt,
                 book,
