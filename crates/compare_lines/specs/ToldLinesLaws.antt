@@ -1,6 +1,6 @@
 -- Laws of the lines of a comparison, one for each step of the code that puts them.
 -- What compare_book left in the text area is the shown text.
-use Rattle.std.specs.Prelude.{ℕ, ◌+◌, ◌-◌, ◌≤◌, ◌≡◌, refl, List, length, take, drop, replicate}
+use Rattle.std.specs.Prelude.{ℕ, ◌+◌, ◌-◌, ◌≤◌, ◌≡◌, refl, Option, Some, None, Result, Ok, Err, List, length, take, drop, replicate}
 use Rattle.std.proofs.Math.Nat.{sub-zero}
 use Rattle.std.proofs.Common.{arith, sym, ap, subst, ◌∙◌, le-ltb, length-append, length-take, take_at}
 use Rattle.std.proofs.lemmas.List.{length-replicate}
@@ -18,8 +18,7 @@ use Rattle.table.specs.Table.{Table}
 use Rattle.table.specs.Sheet.{read_sheet}
 use Rattle.vector.specs.Layout.{work_length}
 use Rattle.lines.specs.Lines.{refused_line, differs_line, hex_line}
-use Rattle.verdict.specs.declared.Compared.{Compared}
-use Rattle.verdict.specs.declared.Compared.TheVariants.{Same, Differs, Refused}
+use Rattle.verdict.specs.declared.Difference.{Difference}
 use Rattle.verdict.specs.Compare.{Verdict}
 use Rattle.verdict.specs.Compare.Verdict.{Same as Verdict·same, Differs as Verdict·differs}
 use Rattle.verdict.specs.Calls.{Told, compared, compare_book, Comparison, answered_in, compare_of}
@@ -31,9 +30,12 @@ use Rattle.programs.specs.StandLaws.{Stands}
 use Rattle.compare_lines.specs.ToldLines.{told_lines, Inside}
 
 -- the code's answer and the text area hold a verdict
-pub record AnswerHeld (v : Outcome Verdict) (area : List ℕ) (r : Compared) : Type 0 where
+pub record AnswerHeld (v : Outcome Verdict) (area : List ℕ) (r : Result (Option Difference) Refusal) : Type 0 where
   pub lines : told_lines area r ≡ verdict_lines v
   pub inside : Inside area r
+
+pub held_refused : {v : Outcome Verdict} (area : List ℕ) (r : Refusal) → refused_line r ≡ verdict_lines v → AnswerHeld v area (Err r)
+held_refused area r e = record { lines = e; inside = tt }
 
 no_told : {r : Refusal} {x : Told} → ◌≡◌ {A = Outcome Told} (refuses r) (gives x) → ⊥
 no_told e = let z : ◌≡◌ {A = ℕ} 0 1 = cc in omega arith
@@ -41,45 +43,49 @@ no_told e = let z : ◌≡◌ {A = ℕ} 0 1 = cc in omega arith
 not_same : {n b s : ℕ} → ◌≡◌ {A = Outcome Told} (gives same) (gives (differs n b s)) → ⊥
 not_same e = let z : ◌≡◌ {A = ℕ} 0 1 = cc in omega arith
 
-holds_told : (area work area' : List ℕ) (v : Outcome Verdict) (r : Compared) → length area' ≡ length area
+holds_told : (area work area' : List ℕ) (v : Outcome Verdict) (r : Result (Option Difference) Refusal) → length area' ≡ length area
     → compared r ≡ (answered_in area work v).answer → area' ≡ (answered_in area work v).text → AnswerHeld v area' r
-holds_told area work area' (gives Verdict·same) Same l e f = record { lines = refl; inside = tt }
-holds_told area work area' (gives Verdict·same) (Differs n b s) l e f = absurd (not_same (sym e))
-holds_told area work area' (gives Verdict·same) (Refused r) l e f = absurd (no_told e)
-holds_told area work area' (gives (Verdict·differs text x y)) Same l e f = absurd (not_same e)
-holds_told area work area' (gives (Verdict·differs text x y)) (Differs n b s) l e f =
-    let many : n ≡ length text = cc in
-    let book : b ≡ x = cc in
-    let sheet : s ≡ y = cc in
-    let shown : take n area' ≡ text = ap (take n) f ∙ take_at text (replicate (length area - length text) 0) n (sym many) in
+holds_told area work area' (gives Verdict·same) (Ok None) l e f = record { lines = refl; inside = tt }
+holds_told area work area' (gives Verdict·same) (Ok (Some d)) l e f = absurd (not_same (sym e))
+holds_told area work area' (gives Verdict·same) (Err r) l e f = absurd (no_told e)
+holds_told area work area' (gives (Verdict·differs text x y)) (Ok None) l e f = absurd (not_same e)
+holds_told area work area' (gives (Verdict·differs text x y)) (Ok (Some d)) l e f =
+    let many : d.len ≡ length text = cc in
+    let book : d.by_book ≡ x = cc in
+    let sheet : d.by_table ≡ y = cc in
+    let shown : take d.len area' ≡ text = ap (take d.len) f ∙ take_at text (replicate (length area - length text) 0) d.len (sym many) in
     let size : length area' ≡ length text + (length area - length text) =
     ap length f ∙ length-append text (replicate (length area - length text) 0) ∙ ap (λ (k : ℕ). length text + k) (length-replicate (length area - length text) 0) in
     record { lines = rw (shown, many, book, sheet) refl; inside = omega (arith, size, l, many) }
-holds_told area work area' (gives (Verdict·differs text x y)) (Refused r) l e f = absurd (no_told e)
-holds_told area work area' (refuses q) Same l e f = absurd (no_told (sym e))
-holds_told area work area' (refuses q) (Differs n b s) l e f = absurd (no_told (sym e))
-holds_told area work area' (refuses q) (Refused r) l e f = let z : r ≡ q = cc in record { lines = ap (λ (x : Refusal). refused_line x) z; inside = tt }
+holds_told area work area' (gives (Verdict·differs text x y)) (Err r) l e f = absurd (no_told e)
+holds_told area work area' (refuses q) (Ok None) l e f = absurd (no_told (sym e))
+holds_told area work area' (refuses q) (Ok (Some d)) l e f = absurd (no_told (sym e))
+holds_told area work area' (refuses q) (Err r) l e f = let z : r ≡ q = cc in record { lines = ap (λ (x : Refusal). refused_line x) z; inside = tt }
 
 -- the answer's lines, as the code puts them
-pub told_as : (area : List ℕ) (answer r : Compared) {o o' : List ℕ} {end : ℕ} → answer ≡ r → Writes (told_lines area r) o o' 0 end
+pub told_as : (area : List ℕ) (answer r : Result (Option Difference) Refusal) {o o' : List ℕ} {end : ℕ} → answer ≡ r → Writes (told_lines area r) o o' 0 end
     → Writes (told_lines area answer) o o' 0 end
-told_as area answer r {o} {o'} {end} e put = subst (λ (x : Compared). Writes (told_lines area x) o o' 0 end) (sym e) put
+told_as area answer r {o} {o'} {end} e put = subst (λ (x : Result (Option Difference) Refusal). Writes (told_lines area x) o o' 0 end) (sym e) put
 
-pub told_inside : (area : List ℕ) (answer : Compared) (n b s : ℕ) → answer ≡ Differs n b s → Inside area answer → n ≤ length area
-told_inside area answer n b s e h = subst (Inside area) e h
+-- an answer taken apart in two steps
+pub parted : {answer : Result (Option Difference) Refusal} {o r : Option Difference} → answer ≡ Ok o → o ≡ r → answer ≡ Ok r
+parted e f = e ∙ ap Ok f
+
+pub told_inside : (area : List ℕ) (answer : Result (Option Difference) Refusal) (d : Difference) → answer ≡ Ok (Some d) → Inside area answer → d.len ≤ length area
+told_inside area answer d e h = subst (Inside area) e h
 
 pub told_part : (area part : List ℕ) (n : ℕ) → part ≡ take (n - 0) area → length part ≤ length area
 told_part area part n f = rw f (omega (arith, length-take (n - 0) area))
 
-pub told_differs : (area part : List ℕ) (answer : Compared) (n b s : ℕ) {o o₁ o₂ : List ℕ} {mid end : ℕ} → answer ≡ Differs n b s
-    → part ≡ take (n - 0) area → Writes (differs_line n b s) o o₁ 0 mid → Writes (hex_line (drop 0 part)) o₁ o₂ mid end
+pub told_differs : (area part : List ℕ) (answer : Result (Option Difference) Refusal) (d : Difference) {o o₁ o₂ : List ℕ} {mid end : ℕ} → answer ≡ Ok (Some d)
+    → part ≡ take (d.len - 0) area → Writes (differs_line d.len d.by_book d.by_table) o o₁ 0 mid → Writes (hex_line (drop 0 part)) o₁ o₂ mid end
     → Writes (told_lines area answer) o o₂ 0 end
-told_differs area part answer n b s e f first second =
-    let shown : part ≡ take n area = f ∙ ap (λ (k : ℕ). take k area) (sub-zero n) in
-    told_as area answer (Differs n b s) e (writes_then (omega arith) first (writes_as (ap hex_line shown) second))
+told_differs area part answer d e f first second =
+    let shown : part ≡ take d.len area = f ∙ ap (λ (k : ℕ). take k area) (sub-zero d.len) in
+    told_as area answer (Ok (Some d)) e (writes_then (omega arith) first (writes_as (ap hex_line shown) second))
 
 -- past the book's faults: the sheet was read, and the walk answers
-pub compare_holds : (book : List ℕ) (n : ℕ) (l t area work area' work' : List ℕ) (r : Compared) (table : Table)
+pub compare_holds : (book : List ℕ) (n : ℕ) (l t area work area' work' : List ℕ) (r : Result (Option Difference) Refusal) (table : Table)
     → Stands table n l t → shown_text ≤ length area → work_length ≤ length work → length area' ≡ length area
     → Compares book n l t area work area' work' r → AnswerHeld (compare_book book table) area' r
 compare_holds book n l t area work area' work' r table s room long e c =

@@ -1,8 +1,10 @@
--- `compare_lines::compare_lines` meets its contract: Input for each file, else what both files come to.
--- Assumes nothing.
-use native.Mathlib.Omega.{arith}
+-- Input for each file, else what both files come to.
+use Rattle.std.proofs.Common.{rules, arith, ◌∙◌}
 use Rattle.programs.specs.PrintLaws.{writes_as, compare_no_book, compare_no_sheet, compare_both}
 use Rattle.compare_lines.proofs.compare_lines.Goals as goal
+
+pub put_answer-requires : goal.put_answer-requires
+put_answer-requires c = record { inside = c.answer-found.ensures.inside; area_len = search rules; compare_room_in_bounds = c.requires }
 
 pub returns-then-book-gt-BOOK_FILE : goal.returns-then-book-gt-BOOK_FILE
 returns-then-book-gt-BOOK_FILE c =
@@ -14,4 +16,4 @@ returns-then-sheet-gt-SHEET_FILE c =
 
 pub returns : goal.returns
 returns c =
-    record { writes = writes_as (compare_both c.args.book.now c.args.sheet.now c.if-book-gt-BOOK_FILE.false c.if-sheet-gt-SHEET_FILE.false) c.compare_in.ensures.writes; upper_bound = c.compare_in.ensures.upper_bound }
+    record { writes = writes_as (c.answer-found.ensures.lines ∙ compare_both c.args.book.now c.args.sheet.now c.if-book-gt-BOOK_FILE.false c.if-sheet-gt-SHEET_FILE.false) c.put_answer.ensures.writes; upper_bound = c.put_answer.ensures.upper_bound }
