@@ -19,16 +19,14 @@ use packed::CELLS;
 pub fn lubi_check_book(book: &[u8], answer: &mut [usize; CELLS]) -> usize
     ensures { left result answer.new ≡ packed told_size (check_of book.now) }
 {
-    let found = checking::check_book(book);
-    packed::tell_size(answer, found)
+    packed::tell_size(answer, checking::check_book(book))
 }
 
 // The kind of a rule, or that the book has no such rule.
 pub fn lubi_rule_kind(book: &[u8], rule: usize, answer: &mut [usize; CELLS]) -> usize
     ensures { left result answer.new ≡ packed told_kind (kind_of book.now rule) }
 {
-    let found = places::rule_kind(book, rule);
-    packed::tell_kind(answer, found)
+    packed::tell_kind(answer, places::rule_kind(book, rule))
 }
 
 // Whether a table is well formed; no number is told of one that is.
@@ -42,9 +40,10 @@ pub fn lubi_well_formed<'a>(
         ≡ packed told_count (tested (well_formed count labels.now targets.now)) }
 {
     if table::well_formed(count, labels, targets) {
-        return packed::give(answer, [0; CELLS]);
+        packed::give(answer, [0; CELLS])
+    } else {
+        packed::refuse(answer, Refusal::Loaded)
     }
-    packed::refuse(answer, Refusal::Loaded)
 }
 
 // A book is built into the table area.
@@ -65,8 +64,7 @@ pub fn lubi_build(
     ensures work_after { work.new
         ≡ (build_of book.now labels.old targets.old work.old).work }
 {
-    let found = building::build(book, labels, targets, work);
-    packed::tell_count(answer, found)
+    packed::tell_count(answer, building::build(book, labels, targets, work))
 }
 
 // A sheet is read into the table area.
@@ -81,8 +79,7 @@ pub fn lubi_load(
     ensures labels_after { labels.new ≡ (load_of sheet.now labels.old targets.old).labels }
     ensures targets_after { targets.new ≡ (load_of sheet.now labels.old targets.old).targets }
 {
-    let found = loading::load(sheet, labels, targets);
-    packed::tell_count(answer, found)
+    packed::tell_count(answer, loading::load(sheet, labels, targets))
 }
 
 // A table is written as its sheet.
@@ -97,8 +94,7 @@ pub fn lubi_write_sheet<'a>(
         ≡ packed told_count (write_of count labels.now targets.now out.old).answer }
     ensures out_after { out.new ≡ (write_of count labels.now targets.now out.old).out }
 {
-    let found = writing::write_sheet(count, labels, targets, out);
-    packed::tell_count(answer, found)
+    packed::tell_count(answer, writing::write_sheet(count, labels, targets, out))
 }
 
 // A text of typed rules becomes a rule book.
@@ -106,8 +102,7 @@ pub fn lubi_type(text: &[u8], out: &mut [u8], answer: &mut [usize; CELLS]) -> us
     ensures answer_after { left result answer.new ≡ packed told_count (type_of text.now out.old).answer }
     ensures out_after { out.new ≡ (type_of text.now out.old).out }
 {
-    let found = typing::type_rules(text, out);
-    packed::tell_count(answer, found)
+    packed::tell_count(answer, typing::type_rules(text, out))
 }
 
 // The words of a text from a place on go into cells, three for each.
@@ -126,8 +121,10 @@ pub fn lubi_cut_from<'a>(
     ensures records_after { records.new
         ≡ (cut_cells_of count labels.now targets.now text.now at records.old).cells }
 {
-    let found = cutting::cut_from(count, labels, targets, text, at, records);
-    packed::tell_end(answer, found)
+    packed::tell_end(
+        answer,
+        cutting::cut_from(count, labels, targets, text, at, records),
+    )
 }
 
 // A book is compared with a table; where they differ, the text goes to the front of the text area.
@@ -148,6 +145,8 @@ pub fn lubi_compare<'a>(
     ensures work_after { work.new
         ≡ (compare_of book.now count labels.now targets.now text_area.old work.old).work }
 {
-    let found = comparing::compare_book(book, count, labels, targets, text_area, work);
-    packed::tell_compared(answer, found)
+    packed::tell_compared(
+        answer,
+        comparing::compare_book(book, count, labels, targets, text_area, work),
+    )
 }
