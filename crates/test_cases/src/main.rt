@@ -13,9 +13,9 @@ use number::Refusal;
 use number::limits::{BOOK_FILE, SHOWN_TEXT, STATES, TABLE_CELLS};
 use std::fs::File;
 use std::str;
-use table::{Counted, LONGEST_SHEET, Written};
+use table::LONGEST_SHEET;
 use vector::layout::WORK_LENGTH;
-use verdict::Compared;
+use verdict::Difference;
 
 // Cases have numbers of three digits.
 const NUMBERS: usize = 1000;
@@ -93,11 +93,9 @@ fn say_word(rt: &HostRuntime, start: usize, length: usize, rule: usize) {
 
 // The words that were put into the records, a line each.
 fn say_words(rt: &HostRuntime, records: &[usize; WORDS * RECORD_CELLS], n: usize) {
-    for k in 0..WORDS {
-        if k < n {
-            let at = k * RECORD_CELLS;
-            say_word(rt, records[at], records[at + 1], records[at + 2]);
-        }
+    for k in 0..WORDS.min(n) {
+        let at = k * RECORD_CELLS;
+        say_word(rt, records[at], records[at + 1], records[at + 2]);
     }
 }
 
@@ -115,21 +113,21 @@ fn cut_case<'a>(rt: &HostRuntime, count: usize, labels: &'a [u8], targets: &'a [
     let mut records = [0usize; WORDS * RECORD_CELLS];
     let length = read_case(rt, name, &mut text);
     match cutting::cut_from(count, labels, targets, &text[0..length], 0, &mut records) {
-        Ended::Done(n) => {
+        Ok(Ended::Done(n)) => {
             say_words(rt, &records, n);
             say(rt, b"done ");
             say_number(rt, n);
             say(rt, b"\n");
         }
-        Ended::Stuck(n, at) => {
+        Ok(Ended::Stuck(n, at)) => {
             say_words(rt, &records, n);
             say_end(rt, b"stuck ", n, at);
         }
-        Ended::Full(n, at) => {
+        Ok(Ended::Full(n, at)) => {
             say_words(rt, &records, n);
             say_end(rt, b"full ", n, at);
         }
-        Ended::Refused(r) => say_refused(rt, r),
+        Err(r) => say_refused(rt, r),
     }
 }
 
@@ -139,11 +137,11 @@ fn say_table<'a>(rt: &HostRuntime, count: usize, labels: &'a [u8], targets: &'a 
     say_number(rt, count);
     say(rt, b" states, ");
     match writing::write_sheet(count, labels, targets, &mut sheet) {
-        Written::Bytes(n) => {
+        Ok(n) => {
             say_number(rt, n);
             say(rt, b" bytes\n");
         }
-        Written::Unwritten(r) => say_refused(rt, r),
+        Err(r) => say_refused(rt, r),
     }
 }
 
@@ -155,11 +153,11 @@ fn build_case(rt: &HostRuntime, book_name: &[u8], text_name: &[u8]) {
     let mut work = work_room();
     let n = read_case(rt, book_name, &mut book);
     match building::build(&book[0..n], &mut labels, &mut targets, &mut work) {
-        Counted::States(count) => {
+        Ok(count) => {
             say_table(rt, count, &labels, &targets);
             cut_case(rt, count, &labels, &targets, text_name);
         }
-        Counted::Refused(r) => say_refused(rt, r),
+        Err(r) => say_refused(rt, r),
     }
 }
 
@@ -175,22 +173,23 @@ fn say_hex(rt: &HostRuntime, text: &[u8]) {
     say(rt, b"\n");
 }
 
-fn say_compared(rt: &HostRuntime, answer: Compared, text: &[u8]) {
+fn say_compared(rt: &HostRuntime, answer: Result<Option<Difference>, Refusal>, text: &[u8]) {
     match answer {
-        Compared::Same => say(rt, b"same\n"),
-        Compared::Differs(len, book, sheet) => {
+        Ok(None) => say(rt, b"same\n"),
+        Ok(Some(found)) => {
+            let len = found.len;
             say(rt, b"differs ");
             say_number(rt, len);
             say(rt, b" ");
-            say_number(rt, book);
+            say_number(rt, found.by_book);
             say(rt, b" ");
-            say_number(rt, sheet);
+            say_number(rt, found.by_table);
             say(rt, b"\n");
             if len <= text.len() {
                 say_hex(rt, &text[0..len]);
             }
         }
-        Compared::Refused(r) => say_refused(rt, r),
+        Err(r) => say_refused(rt, r),
     }
 }
 
@@ -199,13 +198,13 @@ fn say_back<'a>(rt: &HostRuntime, sheet: &[u8], count: usize, labels: &'a [u8], 
     let mut out = sheet_room();
     say(rt, b"back ");
     match writing::write_sheet(count, labels, targets, &mut out) {
-        Written::Bytes(n) => {
+        Ok(n) => {
             say_number(rt, n);
             if n <= out.len() {
                 say_same(rt, sheet, &out[0..n]);
             }
         }
-        Written::Unwritten(r) => say_refused(rt, r),
+        Err(r) => say_refused(rt, r),
     }
 }
 
@@ -228,7 +227,7 @@ fn compare_case(rt: &HostRuntime, book_name: &[u8], sheet_name: &[u8]) {
     let n = read_case(rt, book_name, &mut book);
     let m = read_case(rt, sheet_name, &mut sheet);
     match loading::load(&sheet[0..m], &mut labels, &mut targets) {
-        Counted::States(count) => {
+        Ok(count) => {
             say_back(rt, &sheet[0..m], count, &labels, &targets);
             let answer = comparing::compare_book(
                 &book[0..n],
@@ -240,7 +239,7 @@ fn compare_case(rt: &HostRuntime, book_name: &[u8], sheet_name: &[u8]) {
             );
             say_compared(rt, answer, &text);
         }
-        Counted::Refused(r) => say_refused(rt, r),
+        Err(r) => say_refused(rt, r),
     }
 }
 
