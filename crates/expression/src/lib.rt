@@ -3,7 +3,6 @@
 #![tactic(auto)]
 
 ghost use Rattle.std.specs.Prelude.{◌≤◌, ◌≡◌, length};
-ghost use Rattle.number.specs.Limits.{nodes};
 ghost use Rattle.number.specs.declared.Refusal.{Refusal};
 ghost use Rattle.number.specs.declared.Refusal.TheVariants.{Typed};
 ghost use Rattle.expression.specs.declared.Wrong.{Wrong};
@@ -13,7 +12,7 @@ ghost use Rattle.expression.specs.Steps.{LeafRead, EscapeRead, NameRead, MarksRe
 use laid::{ALT, CAT, EMPTY};
 use names::{Naming, byte_at};
 use number::Refusal;
-use number::limits::LAST_BYTE;
+use number::limits::{LAST_BYTE, NODES};
 
 // The place of the wrong byte.
 #[derive(Clone, Copy, PartialEq, Eq)]
@@ -30,8 +29,13 @@ impl From<Wrong> for Refusal {
 }
 
 // The two hex digits of an escape.
-fn escape(text: &[u8], at: usize, cells: &mut [u32], top: usize) -> Result<(usize, usize), Wrong>
-    requires { (at ≤ length text.now) × (length cells.old ≡ nodes) }
+fn escape(
+    text: &[u8],
+    at: usize,
+    cells: &mut [u32; NODES],
+    top: usize,
+) -> Result<(usize, usize), Wrong>
+    requires { at ≤ length text.now }
     ensures { EscapeRead text.now cells.old at top result cells.new }
 {
     let Some(high) = names::hex_of(byte_at(text, at)) else {
@@ -47,8 +51,13 @@ fn escape(text: &[u8], at: usize, cells: &mut [u32], top: usize) -> Result<(usiz
 }
 
 // The rest of a set's name: byte by byte, as long as some name begins so.
-fn name(text: &[u8], at: usize, cells: &mut [u32], top: usize) -> Result<(usize, usize), Wrong>
-    requires { (at ≤ length text.now) × (length cells.old ≡ nodes) }
+fn name(
+    text: &[u8],
+    at: usize,
+    cells: &mut [u32; NODES],
+    top: usize,
+) -> Result<(usize, usize), Wrong>
+    requires { at ≤ length text.now }
     ensures { NameRead text.now cells.old at top result cells.new }
 {
     for to in at..text.len() {
@@ -65,8 +74,13 @@ fn name(text: &[u8], at: usize, cells: &mut [u32], top: usize) -> Result<(usize,
 }
 
 // An atom that holds no other: a bare byte, an escape, a dot, a set.
-fn leaf(text: &[u8], at: usize, cells: &mut [u32], top: usize) -> Result<(usize, usize), Wrong>
-    requires { (at ≤ length text.now) × (length cells.old ≡ nodes) }
+fn leaf(
+    text: &[u8],
+    at: usize,
+    cells: &mut [u32; NODES],
+    top: usize,
+) -> Result<(usize, usize), Wrong>
+    requires { at ≤ length text.now }
     ensures { LeafRead text.now cells.old at top result cells.new }
 {
     let c = byte_at(text, at);
@@ -88,8 +102,13 @@ fn leaf(text: &[u8], at: usize, cells: &mut [u32], top: usize) -> Result<(usize,
 }
 
 // The marks after an atom that ends before `from`, whose nodes go from start to count: the place after them and the count of nodes.
-fn marks(text: &[u8], from: usize, cells: &mut [u32], start: usize, count: usize) -> (usize, usize)
-    requires { length cells.old ≡ nodes }
+fn marks(
+    text: &[u8],
+    from: usize,
+    cells: &mut [u32; NODES],
+    start: usize,
+    count: usize,
+) -> (usize, usize)
     ensures { MarksRead text.now from cells.old start count result cells.new }
 {
     let mut t = count;
@@ -104,15 +123,16 @@ fn marks(text: &[u8], from: usize, cells: &mut [u32], start: usize, count: usize
 }
 
 // A choice: sequences with bars between them, grouped from the left. So many parentheses may still be opened in it.
+// Kept as a while, as in a sequence: the next place is where the part that was read ends, so nothing is counted.
 #[cycle(atom_choice_sequence)]
 pub fn choice(
     text: &[u8],
     at: usize,
     room: usize,
-    cells: &mut [u32],
+    cells: &mut [u32; NODES],
     top: usize,
 ) -> Result<(usize, usize), Wrong>
-    requires { (at ≤ length text.now) × (length cells.old ≡ nodes) }
+    requires { at ≤ length text.now }
     ensures { ChoiceRead Ends text.now cells.old at room top result cells.new }
 {
     let (mut p, mut t) = sequence(text, at, room, cells, top)?;
@@ -133,10 +153,10 @@ fn sequence(
     text: &[u8],
     at: usize,
     room: usize,
-    cells: &mut [u32],
+    cells: &mut [u32; NODES],
     top: usize,
 ) -> Result<(usize, usize), Wrong>
-    requires { (at ≤ length text.now) × (length cells.old ≡ nodes) }
+    requires { at ≤ length text.now }
     ensures { SequenceRead Breaks text.now cells.old at room top result cells.new }
 {
     let (from, count) = atom(text, at, room, cells, top)?;
@@ -159,10 +179,10 @@ fn atom(
     text: &[u8],
     at: usize,
     room: usize,
-    cells: &mut [u32],
+    cells: &mut [u32; NODES],
     top: usize,
 ) -> Result<(usize, usize), Wrong>
-    requires { (at ≤ length text.now) × (length cells.old ≡ nodes) }
+    requires { at ≤ length text.now }
     ensures { AtomRead Any text.now cells.old at room top result cells.new }
 {
     if byte_at(text, at) != b'(' {

@@ -3,7 +3,6 @@
 #![tactic(auto)]
 
 ghost use Rattle.std.specs.Prelude.{◌≡◌, ◌<◌, length};
-ghost use Rattle.number.specs.Limits.{nodes};
 ghost use Rattle.book.specs.declared.Node.TheVariants.{Range};
 ghost use Rattle.typed.specs.Exp.{postfix};
 ghost use Rattle.typed.specs.Exp.Exp.{set as set_exp};
@@ -67,8 +66,7 @@ const RANGES: [Span; 23] = [
 const STARTS: [usize; 13] = [0, 3, 5, 7, 9, 10, 11, 12, 13, 17, 19, 20, 23];
 
 // One node more, where there is room.
-pub fn lay(cells: &mut [u32], top: usize, x: u32) -> usize
-    requires { length cells.old ≡ nodes }
+pub fn lay(cells: &mut [u32; NODES], top: usize, x: u32) -> usize
     ensures { AddsCell cells.old top x cells.new result }
 {
     if top < NODES {
@@ -79,8 +77,7 @@ pub fn lay(cells: &mut [u32], top: usize, x: u32) -> usize
 }
 
 // The nodes from start on once more.
-fn again(cells: &mut [u32], start: usize, top: usize) -> usize
-    requires { length cells.old ≡ nodes }
+fn again(cells: &mut [u32; NODES], start: usize, top: usize) -> usize
     ensures { Again cells.old start top cells.new result }
 {
     let mut t = top;
@@ -94,8 +91,7 @@ fn again(cells: &mut [u32], start: usize, top: usize) -> usize
 }
 
 // A mark after the item whose nodes begin at start: R* is R, Star; R+ is R, R, Star, Cat; R? is R, Empty, Alt.
-pub fn mark(cells: &mut [u32], start: usize, top: usize, c: u8) -> usize
-    requires { length cells.old ≡ nodes }
+pub fn mark(cells: &mut [u32; NODES], start: usize, top: usize, c: u8) -> usize
     ensures { Marked (mark_of c) cells.old start top cells.new result }
 {
     match c {
@@ -120,8 +116,7 @@ pub fn range_cell(lo: u8, hi: u8) -> u32
 }
 
 // One range of a set, joined to those before it.
-fn lay_range(cells: &mut [u32], top: usize, r: Span, joined: bool) -> usize
-    requires { length cells.old ≡ nodes }
+fn lay_range(cells: &mut [u32; NODES], top: usize, r: Span, joined: bool) -> usize
     ensures { Adds cells.old top (range_nodes r joined) cells.new result }
 {
     let x = range_cell(r.lo, r.hi);
@@ -133,8 +128,8 @@ fn lay_range(cells: &mut [u32], top: usize, r: Span, joined: bool) -> usize
 }
 
 // The nodes of a set, by its number.
-pub fn lay_set(cells: &mut [u32], top: usize, k: usize) -> usize
-    requires { (k < length sets) × (length cells.old ≡ nodes) }
+pub fn lay_set(cells: &mut [u32; NODES], top: usize, k: usize) -> usize
+    requires { k < length sets }
     ensures { Adds cells.old top (postfix (set_exp (set_at k))) cells.new result }
 {
     let from = STARTS[k];

@@ -1,7 +1,7 @@
 -- What the public call promises, for every text and every area; and the same past the test for room.
 -- Both are the equations of Calls.antt in the crate typed; the call tells a refusal by the paper's number and place too (`row_of`).
 use Rattle.std.specs.Prelude.{ℕ, ◌≤◌, ◌≡◌, List, length, Result}
-use Rattle.number.specs.Limits.{nodes, typed_area}
+use Rattle.number.specs.Limits.{typed_area}
 use Rattle.number.specs.Refused.{row_of}
 use Rattle.number.specs.declared.Refusal.{Refusal}
 use Rattle.table.specs.Calls.{wrote}
@@ -19,7 +19,6 @@ pub record Given (text out : List ℕ) (r : Result ℕ Refusal) (out' : List ℕ
   pub output : out' ≡ (put_book out (book_bytes text)).out
 
 -- memory that is large enough
-pub record Ready (cells book out : List ℕ) : Type 0 where
-  pub cells_are : length cells ≡ nodes
+pub record Ready (book out : List ℕ) : Type 0 where
   pub book_is : length book ≡ typed_area
   pub room : typed_area ≤ length out

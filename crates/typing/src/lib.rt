@@ -51,11 +51,11 @@ pub fn type_rules(text: &[u8], out: &mut [u8]) -> Result<usize, Refusal>
 // The same, with memory for the nodes of a line and for the book.
 fn type_in(
     text: &[u8],
-    cells: &mut [u32],
+    cells: &mut [u32; NODES],
     book: &mut [u8],
     out: &mut [u8],
 ) -> Result<usize, Refusal>
-    requires { Ready cells.old book.old out.old }
+    requires { Ready book.old out.old }
     ensures { Given text.now out.old result out.new }
 {
     let sum = read_rules(text, cells, book)?;
@@ -63,8 +63,13 @@ fn type_in(
 }
 
 // The lines of a text, each added to the rules so far.
-fn read_rules(text: &[u8], cells: &mut [u32], book: &mut [u8]) -> Result<Result<Sum, Fault>, Wrong>
-    requires { (length cells.old ≡ nodes) × (length book.old ≡ typed_area) }
+// Kept as a while: the next place is where the line that was read ends, so nothing is counted.
+fn read_rules(
+    text: &[u8],
+    cells: &mut [u32; NODES],
+    book: &mut [u8],
+) -> Result<Result<Sum, Fault>, Wrong>
+    requires { length book.old ≡ typed_area }
     ensures { RulesReads text.now book.new result }
 {
     let mut sum = Ok(Sum {
@@ -82,8 +87,8 @@ fn read_rules(text: &[u8], cells: &mut [u32], book: &mut [u8]) -> Result<Result<
 }
 
 // A line: its kind, a colon, an expression, a newline.
-fn read_line(text: &[u8], at: usize, cells: &mut [u32]) -> Result<LineRead, Wrong>
-    requires { (at < length text.now) × (length cells.old ≡ nodes) }
+fn read_line(text: &[u8], at: usize, cells: &mut [u32; NODES]) -> Result<LineRead, Wrong>
+    requires { at < length text.now }
     ensures { LineReads text.now at cells.old result cells.new }
 {
     let (kind, from) = read_kind(text, at)?;
@@ -152,10 +157,10 @@ fn add_line(
     so_far: Result<Sum, Fault>,
     kind: usize,
     count: usize,
-    cells: &[u32],
+    cells: &[u32; NODES],
     book: &mut [u8],
 ) -> Result<Sum, Fault>
-    requires { Roomy so_far book.old × (length cells.now ≡ nodes) × (count ≤ nodes + 1) }
+    requires { Roomy so_far book.old × (count ≤ nodes + 1) }
     ensures { AddsLine so_far kind count cells.now book.old result book.new }
 {
     let sum = so_far?;

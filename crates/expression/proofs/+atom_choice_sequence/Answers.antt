@@ -18,7 +18,7 @@ pub atom-returns-then-byte_at-eq41 : goal.atom-returns-then-byte_at-eq41
 atom-returns-then-byte_at-eq41 t c = atom_empty _ _ _ c.byte_at.ensures c.if-byte_at-ne40.false _ _ _ (c.args.room - 1) _ _ _ (omega (arith, c.if-room-eq0.false)) c.byte_at-2.ensures c.if-byte_at-eq41.true c.lay-t.ensures
 
 pub atom-choice-requires : goal.atom-choice-requires
-atom-choice-requires t c = let l = opened_there _ _ _ c.byte_at.ensures c.if-byte_at-ne40.false in (omega (arith, l), (omega (arith, l), c.requires.1))
+atom-choice-requires t c = let l = opened_there _ _ _ c.byte_at.ensures c.if-byte_at-ne40.false in (omega (arith, l), omega (arith, l))
 
 pub atom-returns-in_err-p : goal.atom-returns-in_err-p
 atom-returns-in_err-p t c =
@@ -63,7 +63,7 @@ pub sequence-returns-then-not-begins_atom : goal.sequence-returns-then-not-begin
 sequence-returns-then-not-begins_atom t c = sequence_done _ _ _ _ _ _ _ _ (c.loop-p.invariant.reads _ _ _ (sequence_first _ _ _ _ _ (c.marks-p.ensures.reads _ _ _ c.in_ok-from.ensures))) _ (byte_inside _ _ c.loop-p-test.true) (sym c.if-not-begins_atom.true ∙ c.begins_atom.ensures)
 
 pub sequence-atom-requires-in-loop-p : goal.sequence-atom-requires-in-loop-p
-sequence-atom-requires-in-loop-p t c = let f = at_of (c.marks-p.ensures.reads _ _ _ c.in_ok-from.ensures).within in (omega (arith, c.requires.0, c.loop-p.invariant.started, f.0, c.loop-p-test.true), (omega (arith, c.loop-p-test.true), c.loop-p.invariant.same ∙ c.marks-p.ensures.same ∙ c.in_ok-from.ensures.same ∙ c.requires.1))
+sequence-atom-requires-in-loop-p t c = let f = at_of (c.marks-p.ensures.reads _ _ _ c.in_ok-from.ensures).within in (omega (arith, c.requires, c.loop-p.invariant.started, f.0, c.loop-p-test.true), omega (arith, c.loop-p-test.true))
 
 pub sequence-returns-in_err-q : goal.sequence-returns-in_err-q
 sequence-returns-in_err-q t c =

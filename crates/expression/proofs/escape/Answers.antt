@@ -13,10 +13,10 @@ hexed : {x : Option ℕ} {c d : ℕ} → x ≡ found (hex c) → c ≡ d → x �
 hexed e h = e ∙ ap (λ (y : ℕ). found (hex y)) h
 
 pub returns-in_default : goal.returns-in_default
-returns-in_default c = escape_none _ _ _ _ c.requires.0 (hexed c.in_default.ensures.value c.byte_at.ensures)
+returns-in_default c = escape_none _ _ _ _ c.requires (hexed c.in_default.ensures.value c.byte_at.ensures)
 
 pub returns-in_default-hex_of : goal.returns-in_default-hex_of
-returns-in_default-hex_of c = escape_half _ _ _ _ c.requires.0 _ (hexed c.in-Some.ensures.value c.byte_at.ensures) (hexed c.in_default-hex_of.ensures.value c.byte_at-2.ensures)
+returns-in_default-hex_of c = escape_half _ _ _ _ c.requires _ (hexed c.in-Some.ensures.value c.byte_at.ensures) (hexed c.in_default-hex_of.ensures.value c.byte_at-2.ensures)
 
 pub returns : goal.returns
-returns c = escape_read _ _ _ _ c.requires.0 _ (hexed c.in-Some.ensures.value c.byte_at.ensures) _ _ _ _ (hexed c.in-Some-hex_of.ensures.value c.byte_at-2.ensures) c.range_cell-x.ensures c.lay-t.ensures
+returns c = escape_read _ _ _ _ c.requires _ (hexed c.in-Some.ensures.value c.byte_at.ensures) _ _ _ _ (hexed c.in-Some-hex_of.ensures.value c.byte_at-2.ensures) c.range_cell-x.ensures c.lay-t.ensures

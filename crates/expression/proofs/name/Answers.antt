@@ -8,7 +8,7 @@ use Rattle.expression.specs.LeafLaws.{naming_none, naming_more, name_read, name_
 use Rattle.expression.proofs.name.Goals as goal
 
 pub loop-to-init : goal.loop-to-init
-loop-to-init c = (naming_none _ _ c.requires.0, refl)
+loop-to-init c = (naming_none _ _ c.requires, refl)
 
 pub returns-in-Whole : goal.returns-in-Whole
 returns-in-Whole c = name_from c.loop-to.invariant.1 (name_read _ _ _ c.loop-to-test.true c.loop-to.invariant.0 _ _ _ _ _ c.in-Whole.ensures c.lay_set-t.ensures)

@@ -8,12 +8,12 @@ use Rattle.laid.specs.Tables.{starts}
 use Rattle.laid.proofs.lay_set.Goals as goal
 
 pub loop-i-init : goal.loop-i-init
-loop-i-init c = ((set_start c.args.k _ _ c.requires.0 refl refl).0, set_none _ _ (get_or starts c.args.k 0))
+loop-i-init c = ((set_start c.args.k _ _ c.requires refl refl).0, set_none _ _ (get_or starts c.args.k 0))
 
 pub loop-i-preserved : goal.loop-i-preserved
 loop-i-preserved c =
-    let e = set_start c.args.k _ _ c.requires.0 refl refl in
+    let e = set_start c.args.k _ _ c.requires refl refl in
     (omega arith, set_more _ _ _ _ _ _ _ _ _ _ c.loop-i.auto.i (omega (arith, e.1)) refl refl c.loop-i.invariant.1 c.lay_range-t.ensures)
 
 pub returns : goal.returns
-returns c = set_all _ _ _ _ _ _ _ _ c.requires.0 refl refl c.loop-i.invariant.0 c.loop-i-test.false c.loop-i.invariant.1
+returns c = set_all _ _ _ _ _ _ _ _ c.requires refl refl c.loop-i.invariant.0 c.loop-i-test.false c.loop-i.invariant.1

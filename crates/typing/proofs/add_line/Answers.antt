@@ -27,10 +27,13 @@ pub write_number-first-requires-clause-n_in_bounds : goal.write_number-first-req
 write_number-first-requires-clause-n_in_bounds c = let i = in_of _ _ _ _ (sym c.out_of.ensures ∙ c.if-out_of.false) in let r = roomy_of c.in_ok-sum.was c.requires.0 in omega (arith, i.0, i.2, width_most c.args.kind, width_most c.args.count, c.write_number-second.ensures.value, c.write_number-second.auto.out, r.counts.short, r.book_is)
 
 pub slice_bounds-write_cells-end : goal.slice_bounds-write_cells-end
-slice_bounds-write_cells-end c = let i = in_of _ _ _ _ (sym c.out_of.ensures ∙ c.if-out_of.false) in sym (length-take-le c.args.count c.args.cells.now (omega (arith, i.2, c.requires.1)))
+slice_bounds-write_cells-end c = let i = in_of _ _ _ _ (sym c.out_of.ensures ∙ c.if-out_of.false) in sym (length-take-le c.args.count c.args.cells.now (omega (arith, i.2)))
 
 pub write_cells-end-requires : goal.write_cells-end-requires
-write_cells-end-requires c = let i = in_of _ _ _ _ (sym c.out_of.ensures ∙ c.if-out_of.false) in let r = roomy_of c.in_ok-sum.was c.requires.0 in omega (arith, i.0, i.2, length-take-le c.args.count c.args.cells.now (omega (arith, i.2, c.requires.1)), width_most c.args.kind, width_most c.args.count, c.write_number-second.ensures.value, c.write_number-second.auto.out, c.write_number-first.ensures.value, c.write_number-first.auto.out, r.counts.short, r.book_is)
+write_cells-end-requires c = let i = in_of _ _ _ _ (sym c.out_of.ensures ∙ c.if-out_of.false) in let r = roomy_of c.in_ok-sum.was c.requires.0 in omega (arith, i.0, i.2, length-take-le c.args.count c.args.cells.now (omega (arith, i.2)), width_most c.args.kind, width_most c.args.count, c.write_number-second.ensures.value, c.write_number-second.auto.out, c.write_number-first.ensures.value, c.write_number-first.auto.out, r.counts.short, r.book_is)
 
 pub returns : goal.returns
-returns c = let r = roomy_of c.in_ok-sum.was c.requires.0 in rw c.in_ok-sum.was (add_in _ _ _ _ _ r _ _ _ _ _ _ (sym c.out_of.ensures ∙ c.if-out_of.false) (record { place = c.write_number-second.ensures.value; out = c.write_number-second.ensures.out_after }) (record { place = c.write_number-first.ensures.value; out = c.write_number-first.ensures.out_after }) c.write_cells-end.ensures c.requires.1 _ refl)
+returns c = let r = roomy_of c.in_ok-sum.was c.requires.0 in rw c.in_ok-sum.was (add_in _ _ _ c.args.cells.now _ r _ _ _ _ _ _ (sym c.out_of.ensures ∙ c.if-out_of.false) (record { place = c.write_number-second.ensures.value; out = c.write_number-second.ensures.out_after }) (record { place = c.write_number-first.ensures.value; out = c.write_number-first.ensures.out_after }) c.write_cells-end.ensures (omega arith) _ refl)
+
+pub shared_ref_as_front-write_cells : goal.shared_ref_as_front-write_cells
+shared_ref_as_front-write_cells c = let i = in_of _ _ _ _ (sym c.out_of.ensures ∙ c.if-out_of.false) in omega (arith, i.2)

@@ -1,11 +1,12 @@
 -- `typing::read_rules` meets its contract: the lines up to p are read and added.
 -- Assumes nothing.
 use Rattle.std.proofs.lemmas.Result.{err_from_is_err_and}
+use native.Mathlib.Omega.{arith}
 use Rattle.typing.specs.SumLaws.{rules_first, rules_next, rules_wrong, rules_all}
 use Rattle.typing.proofs.read_rules.Goals as goal
 
 pub loop-p-init : goal.loop-p-init
-loop-p-init c = rules_first _ _ _ c.requires.0 c.requires.1
+loop-p-init c = rules_first _ c.args.cells.now _ (omega arith) c.requires
 
 pub returns-in_err-line : goal.returns-in_err-line
 returns-in_err-line c =
