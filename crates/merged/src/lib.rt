@@ -8,10 +8,9 @@ ghost use Rattle.merged.specs.Asked.{Sides, CountedSides, Meets, Unites};
 ghost use Rattle.merged.specs.Merge.{head_at, Goes};
 ghost use Rattle.merged.specs.Builds.{United, Merged, MergedFits};
 
-use std::cmp::Ordering;
-
 use meaning::Join;
 use normal::{Built, joins, nest};
+use std::cmp::Ordering;
 use term::{Term, compare_terms, first_of, is_nothing, node_at, second_of};
 
 // How the merge of two terms' members goes on, by the first ones: it stands in a cell; it is a member and the rest, in two cells;

@@ -1,13 +1,11 @@
 -- What make_book answers: a refusal exactly where the text has no book, and that refusal; else that the book was saved, or that it was not.
 -- Which of these two it is no promise can say, since writing is the system's.
-use Rattle.std.specs.Prelude.{ℕ, ◌≡◌, refl, ◌⊎◌, List}
+use Rattle.std.specs.Prelude.{ℕ, ◌≡◌, refl, ◌⊎◌, Result, Ok, Err, List}
 use Rattle.std.proofs.Common.{arith, sym, ap, subst, ◌∙◌, ⊎_elim}
 use Rattle.number.specs.declared.Refusal.{Refusal}
 use Rattle.number.specs.Refused.{number, place, Outcome, Row, row_of}
 use Rattle.number.specs.Refused.Outcome.{gives, refuses}
 use Rattle.number.specs.Refused.Row.{no_row, row as row_at}
-use Rattle.table.specs.declared.Written.{Written}
-use Rattle.table.specs.declared.Written.TheVariants.{Bytes, Unwritten}
 use Rattle.table.specs.Calls.{wrote}
 use Rattle.typed.specs.Calls.{put_book}
 use Rattle.rules_book.specs.Print.{rules_bytes, MakesBook}
@@ -36,9 +34,9 @@ row_made_lem (refuses r) made h = ap row_made h
 makes : (text : List ℕ) (made : Made) → MadeOf (rules_bytes text) made → Makes text made
 makes text made h = record { became = h; row = row_made_lem (rules_bytes text) made h }
 
-module _ (text : List ℕ) {out out' : List ℕ} {w : Written} (m : MakesBook text out w out') where
+module _ (text : List ℕ) {out out' : List ℕ} {w : Result ℕ Refusal} (m : MakesBook text out w out') where
   -- a length is told only of a book
-  pub when_written : (n : ℕ) (made : Made) → w ≡ Bytes n → (made ≡ Saved) ⊎ (made ≡ Unsaved) → Makes text made
+  pub when_written : (n : ℕ) (made : Made) → w ≡ Ok n → (made ≡ Saved) ⊎ (made ≡ Unsaved) → Makes text made
   when_written n made e s = by_outcome (rules_bytes text) refl
     where
       by_outcome : (x : Outcome (List ℕ)) → rules_bytes text ≡ x → Makes text made
@@ -48,7 +46,7 @@ module _ (text : List ℕ) {out out' : List ℕ} {w : Written} (m : MakesBook te
           absurd (let y : ◌≡◌ {A = ℕ} 0 1 = cc in omega arith)
 
   -- and a refusal only where there is none, the same
-  pub when_refused : (r : Refusal) → w ≡ Unwritten r → Makes text (Refused r)
+  pub when_refused : (r : Refusal) → w ≡ Err r → Makes text (Refused r)
   when_refused r e = by_outcome (rules_bytes text) refl
     where
       by_outcome : (x : Outcome (List ℕ)) → rules_bytes text ≡ x → Makes text (Refused r)

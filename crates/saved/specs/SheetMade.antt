@@ -1,14 +1,13 @@
 -- What make_sheet answers: a refusal exactly where the book has no sheet, and that refusal; else that the sheet was saved, or that it was not.
 -- Which of these two it is no promise can say, since writing is the system's.
-use Rattle.std.specs.Prelude.{ℕ, ◌≡◌, ◌⊎◌, List}
+use Rattle.std.specs.Prelude.{ℕ, ◌≡◌, ◌⊎◌, Result, Ok, Err, List}
 use Rattle.std.proofs.Common.{sym, ap, ◌∙◌}
 use Rattle.number.specs.declared.Refusal.{Refusal}
 use Rattle.number.specs.Refused.{Outcome, row_of}
 use Rattle.number.specs.Refused.Outcome.{gives, refuses}
 use Rattle.programs.specs.Print.{sheet_of}
 use Rattle.programs.specs.StandLaws.{no_count, same_refusal}
-use Rattle.sheet_bytes.specs.declared.Put.{Put}
-use Rattle.sheet_bytes.specs.declared.Put.TheVariants.{Sheet, Line}
+use Rattle.sheet_bytes.specs.declared.Line.{Line}
 use Rattle.sheet_bytes.specs.Put.{put_answer, sheet_length, Puts}
 use Rattle.saved.specs.declared.Made.{Made}
 use Rattle.saved.specs.declared.Made.TheVariants.{Saved, Unsaved, Refused}
@@ -31,9 +30,9 @@ of_line : (x : Outcome (List ℕ)) (r : Refusal) → refuses r ≡ sheet_length 
 of_line (gives sheet) r e = absurd (no_count e)
 of_line (refuses q) r e = ap Refused (same_refusal e)
 
-module _ (book : List ℕ) {out out' : List ℕ} {p : Put} (m : Puts (sheet_of book) out out' p) where
-  pub when_sheet : (end : ℕ) (made : Made) → p ≡ Sheet end → (made ≡ Saved) ⊎ (made ≡ Unsaved) → MakesSheet book made
+module _ (book : List ℕ) {out out' : List ℕ} {p : Result ℕ Line} (m : Puts (sheet_of book) out out' p) where
+  pub when_sheet : (end : ℕ) (made : Made) → p ≡ Ok end → (made ≡ Saved) ⊎ (made ≡ Unsaved) → MakesSheet book made
   when_sheet end made e s = makes_sheet book made (of_sheet (sheet_of book) end made (sym (ap put_answer e) ∙ m.which) s)
 
-  pub when_line : (r : Refusal) (end : ℕ) → p ≡ Line r end → MakesSheet book (Refused r)
-  when_line r end e = makes_sheet book (Refused r) (of_line (sheet_of book) r (sym (ap put_answer e) ∙ m.which))
+  pub when_line : (line : Line) → p ≡ Err line → MakesSheet book (Refused line.refusal)
+  when_line line e = makes_sheet book (Refused line.refusal) (of_line (sheet_of book) line.refusal (sym (ap put_answer e) ∙ m.which))

@@ -11,7 +11,6 @@ use number::Refusal;
 use number::limits::{RULES_FILE, TYPED_AREA};
 use std::io::Write;
 use std::rt::Files;
-use table::Written;
 
 mod sheet;
 
@@ -46,6 +45,8 @@ fn tell<P: Print + Eprint, W: Write>(rt: &P, text: &[u8], r: Refusal, people: &m
     files::write(people, &out[0..end]);
 }
 
+// Kept beside `tell`: what the two share is a line printed and a buffer lent; one function over who fills it would have to be told how much that fills,
+// which is no plainer.
 // A book that cannot be written is refused as a file that cannot be read is, but people are told which of the two it was.
 fn tell_unsaved<P: Print + Eprint, W: Write>(rt: &P, people: &mut W) {
     print_refused(rt, Refusal::Input);
@@ -60,14 +61,14 @@ pub fn make_book<R: Files + Print + Eprint, W: Write>(rt: &R, text: &[u8], peopl
 {
     let mut book = [0u8; TYPED_AREA];
     match rules_book::rules_book(text, &mut book) {
-        Written::Bytes(n) => {
+        Ok(n) => {
             if files::save(rt, b"words.book", &book[0..n]) {
                 return Made::Saved;
             }
             tell_unsaved(rt, people);
             Made::Unsaved
         }
-        Written::Unwritten(r) => {
+        Err(r) => {
             tell(rt, text, r, people);
             Made::Refused(r)
         }

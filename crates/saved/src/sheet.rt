@@ -4,7 +4,6 @@ ghost use Rattle.saved.specs.SheetMade.{MakesSheet};
 
 use crate::{Made, print_refused};
 use number::Refusal;
-use sheet_bytes::Put;
 use std::rt::Files;
 use table::LONGEST_SHEET;
 
@@ -15,16 +14,16 @@ pub fn make_sheet<R: Files + Print + Eprint>(rt: &R, book: &[u8]) -> Made
 {
     let mut out = [0u8; LONGEST_SHEET];
     match sheet_bytes::sheet_bytes(book, &mut out) {
-        Put::Sheet(end) => {
+        Ok(end) => {
             if files::save(rt, b"words.sheet", &out[0..end]) {
                 return Made::Saved;
             }
             print_refused(rt, Refusal::Input);
             Made::Unsaved
         }
-        Put::Line(r, end) => {
-            files::print(rt, &out[0..end]);
-            Made::Refused(r)
+        Err(line) => {
+            files::print(rt, &out[0..line.end]);
+            Made::Refused(line.refusal)
         }
     }
 }

@@ -20,7 +20,7 @@ fn cut(rt: &HostRuntime, title: &[u8], book_name: &[u8], text_name: &[u8]) {
     let book_end = files::read_named(rt, book_name, &mut book);
     let text_end = files::read_named(rt, text_name, &mut text);
     say(rt, title);
-    printed::print_cut(rt, &book[0..book_end], &text[0..text_end]);
+    let _ = printed::print_cut(rt, &book[0..book_end], &text[0..text_end]);
 }
 
 fn compare(rt: &HostRuntime, title: &[u8], book_name: &[u8], sheet_name: &[u8]) {
