@@ -41,7 +41,7 @@ pub struct RulePlace {
 pub fn read_node(book: &[u8], at: usize, version: usize) -> Result<(Node, usize), Refusal>
     ensures { node_read result ≡ read_node book.now version at }
 {
-    // Document 01 has a number that is refused end the reading by `let .. else`, so here stands no `?`.
+    // Document 01 names this form: the number reader's answer is taken apart by `let .. else`. Those who read fields go by `?`.
     let number = read_number(book, at).taken;
     let Ok((code, next)) = number else {
         return Err(number.unwrap_err());

@@ -78,7 +78,7 @@ fn write_turn<W: Write>(out: &mut W, bytes: &[u8], at: usize, left: u32) -> Tran
 pub fn write<W: Write>(out: &mut W, bytes: &[u8]) -> Transfer
     ensures { Within (length bytes.now) result }
 {
-    // Kept beside the loop of `read`, since one loop for both would have to be told of each state of a turn that it is lent, which is no plainer.
+    // Kept beside the loop of `read`: a loop for both would take a closure that owns the buffer, with a contract on each state of it; these are three lines.
     let mut now = begin(bytes.len());
     while let Transfer::Going(at, left) = now {
         now = write_turn(out, bytes, at, left);

@@ -54,7 +54,7 @@ pub fn refuse(answer: &mut [usize; CELLS], r: Refusal) -> usize
 }
 
 // An answer of each kind as four numbers, or its refusal.
-// Kept as a function for each kind, and not one over a trait of what is told: each is one `match`, and its contract names the kind.
+// Kept as a function for each kind: a trait of what is told would have an impl with the same `match` for each, and the trait's laws besides.
 pub fn tell_size(answer: &mut [usize; CELLS], found: Result<(usize, usize), Refusal>) -> usize
     ensures { left result answer.new ≡ packed told_size (checked found) }
 {

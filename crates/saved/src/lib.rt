@@ -17,6 +17,7 @@ mod sheet;
 pub use sheet::make_sheet;
 
 // What became of bytes that were read: what they make was saved, or not, or there is none. Whether a file can be written is the system's to say.
+// Kept as an enum of three ways: a Result over an error of two would say them by one name more.
 #[derive(Clone, Copy)]
 pub enum Made {
     Saved,
@@ -45,9 +46,8 @@ fn tell<P: Print + Eprint, W: Write>(rt: &P, text: &[u8], r: Refusal, people: &m
     files::write(people, &out[0..end]);
 }
 
-// Kept beside `tell`: what the two share is a line printed and a buffer lent; one function over who fills it would have to be told how much that fills,
-// which is no plainer.
 // A book that cannot be written is refused as a file that cannot be read is, but people are told which of the two it was.
+// Kept beside `tell`: a function for both would take the call that fills the buffer, with a contract on it that is longer than these four lines.
 fn tell_unsaved<P: Print + Eprint, W: Write>(rt: &P, people: &mut W) {
     print_refused(rt, Refusal::Input);
     let mut out = [0u8; ADVICE_ROOM];

@@ -12,6 +12,7 @@ pub const EINTR: i32 = 4;
 pub const INTERRUPTIONS: u32 = 1_000_000;
 
 // What one call came to: it moved so many bytes, there were none to move, a signal came first, or it failed.
+// Kept as an enum: the theorem `the_answers` tells its four ways one by one, and a Result has two.
 #[derive(Clone, Copy)]
 pub enum Answer {
     Moved(usize),
@@ -22,6 +23,7 @@ pub enum Answer {
 
 // How far a transfer has come: so many bytes have been moved and so many interruptions may still come; or it is over, with the whole buffer
 // moved, or with so many bytes, fewer than the buffer has, after which there were no more; or it failed.
+// Kept as an enum: the theorems `the_transfers` and `the_whole_file` tell these four ways apart.
 #[derive(Clone, Copy)]
 pub enum Transfer {
     Going(usize, u32),

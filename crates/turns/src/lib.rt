@@ -12,7 +12,7 @@ ghost use Rattle.turns.specs.Turned.{Kinds, kind_by, cell_lines, turn_of, Turned
 use cutting::{Ended, RECORD_CELLS};
 
 // How a turn ends: on from a place with so many words so far, or nothing more; and where its lines end.
-// Kept as an enum of its own, since both are ways to go on and neither is a failure.
+// Kept as an enum of its own: both tell where their lines end, and one a place and a count besides; an Option of these beside the end is no plainer.
 #[derive(Clone, Copy)]
 pub enum Turn {
     Onward(usize, usize, usize),
