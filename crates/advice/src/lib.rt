@@ -15,6 +15,7 @@ use phrases::put_text;
 pub const ADVICE_ROOM: usize = 2 * RULES_FILE + 16 * BYTES + 256;
 
 // All that people are told of a refusal; the answer is its length. As for rules_book, too many bytes stand for a file that is missing or too long.
+// The room stays a clause, here and below: an array of just that length would ask more of callers.
 pub fn advise(text: &[u8], r: Refusal, out: &mut [u8]) -> usize
     requires { advice_room ≤ length out.old }
     ensures writes { Writes (advice_of text.now r) out.old out.new 0 result }

@@ -68,6 +68,7 @@ fn build_part(
 
 // A book is built into the table area. Cells of that area past the table are made 0, and all of them after a refusal, as is the work area;
 // only where an area is too small is nothing changed.
+// Kept as three areas: C lends them so.
 pub fn build(
     book: &[u8],
     labels: &mut [u8],

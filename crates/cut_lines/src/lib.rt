@@ -41,8 +41,8 @@ fn tell(r: Refusal, out: &mut [u8]) -> Told
     }
 }
 
-// Builds the table of the book, looks up the kinds of its rules, and answers how many states there are. Files that are missing or too long, which more bytes than a file may have
-// stand for, are told before the book is looked at.
+// Builds the table of the book, looks up the kinds of its rules, and answers how many states there are. Files that are missing or too long,
+// which more bytes than a file may have stand for, are told before the book is looked at.
 pub fn begin<'a>(
     book: &'a [u8],
     text: &'a [u8],
@@ -76,6 +76,7 @@ pub fn begin<'a>(
 }
 
 // The lines of one turn of words, from a place on, where `total` words went before; the last turn's last line too.
+// Kept beside turns::cut_turn: it promises `Goes` too, by what this crate knows of the whole text.
 pub fn next_part<'a>(
     count: usize,
     labels: &'a [u8],

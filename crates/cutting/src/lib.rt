@@ -19,6 +19,7 @@ use number::Refusal;
 use number::limits::BYTES;
 
 // The cells of a record, where words are laid into plain numbers: start, length, rule.
+// Kept as cells, since C lends them so; `cut` has records.
 pub const RECORD_CELLS: usize = 3;
 
 // A word: where it starts, how many bytes it has, and its rule.
@@ -136,6 +137,7 @@ pub fn next_word(
     let mut end = at;
     let mut best = at;
     let mut label: usize = 0;
+    // Kept as a `loop`: a turn goes on by a whole run of bytes, and no index is counted.
     loop {
         let ran = run_from(targets, text, state, end + 1, dead);
         end = ran.end;
@@ -227,6 +229,7 @@ fn cut_into<S: Slot>(
     let room = S::room(slots);
     let mut at = at;
     let mut k: usize = 0;
+    // Kept as a `while`: a turn goes on by the length of the word.
     while at < text.len() {
         let Some((len, rule)) = next_word(count, labels, targets, text, at, dead) else {
             return Ok(Ended::Stuck(k, at));

@@ -134,6 +134,7 @@ pub fn next_edge(cells: &[u64], i: usize, byte: usize) -> usize
     let mut count: usize = 0;
     let mut least = BYTES;
     let mut at = i;
+    // Kept as a `loop`: it goes down a term by the list of what waits, and ends by what it finds.
     loop {
         let node = node_at(cells, at);
         let children = arity(node);

@@ -18,6 +18,7 @@ mod beside;
 pub use beside::save;
 
 // What a call of the library's came to, by what it returned.
+// Kept as a function: From takes every value, and this one asks that a count is below 2^63.
 fn answer_to(got: io::Result<usize>) -> Answer
     requires { IfOk got (λ n. n < 2 ^ 63) }
     ensures { AnswersTo got result }
@@ -89,6 +90,7 @@ pub fn write<W: Write>(out: &mut W, bytes: &[u8]) -> Transfer
 // The number of bytes of an input that was read to its end. Where it has as many as the buffer or more, or a read fails, or it could not be opened,
 // which an error in its place tells, it is the buffer's length: a buffer for a file has one byte more than the file may have, so that this
 // stands for a file that is not to be had.
+// Kept as a length: this call cannot fail, and its clause `value` says what it answers of a file that is not to be had.
 pub fn read_all<R: Read + Drop>(input: io::Result<R>, buffer: &mut [u8]) -> usize
     ensures upper_bound { result ≤ length buffer.new }
     ensures value { IsErr input → result ≡ length buffer.new }

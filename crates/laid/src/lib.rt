@@ -37,6 +37,7 @@ struct Span {
 }
 
 // The byte ranges of the twelve sets, one to four for each; STARTS tells where those of a set begin and those before it end.
+// Kept as one table with its starts: document 01 names a constant table of twenty-three.
 const RANGES: [Span; 23] = [
     Span { lo: b'0', hi: b'9' },
     Span { lo: b'A', hi: b'Z' },
@@ -66,6 +67,7 @@ const RANGES: [Span; 23] = [
 const STARTS: [usize; 13] = [0, 3, 5, 7, 9, 10, 11, 12, 13, 17, 19, 20, 23];
 
 // One node more, where there is room.
+// Kept as a count of 513 past the room: its promise `AddsCell` says so, and a wrong byte further on is still told first.
 pub fn lay(cells: &mut [u32; NODES], top: usize, x: u32) -> usize
     ensures { AddsCell cells.old top x cells.new result }
 {
@@ -77,6 +79,7 @@ pub fn lay(cells: &mut [u32; NODES], top: usize, x: u32) -> usize
 }
 
 // The nodes from start on once more.
+// Kept as a loop over `lay`, which counts on to 513 where there is no room.
 fn again(cells: &mut [u32; NODES], start: usize, top: usize) -> usize
     ensures { Again cells.old start top cells.new result }
 {

@@ -38,6 +38,7 @@ fn digit(d: usize) -> u8
     }
 }
 
+// Kept as two parameters, here and in all writers: each answers the next place, so a struct of both would be taken apart at each call.
 pub fn put_byte(b: u8, out: &mut [u8], at: usize) -> usize
     requires { at < length out.old }
     ensures { Writes (b ∷ []) out.old out.new at result }
@@ -47,6 +48,7 @@ pub fn put_byte(b: u8, out: &mut [u8], at: usize) -> usize
 }
 
 // The decimal digits of a number, found from the last to the first.
+// Numbers are put by hand: Display writes to a Formatter, and no contract says what stands in a lent slice then.
 pub fn put_decimal(n: usize, out: &mut [u8], at: usize) -> usize
     requires { at + length (decimal n) ≤ length out.old }
     ensures { Writes (decimal n) out.old out.new at result }
@@ -100,6 +102,7 @@ fn put_numbers(first: usize, more: &[usize], out: &mut [u8], at: usize) -> usize
 }
 
 // A word.
+// The room stays a clause, here and below: a type of buffers with room would ask more of callers.
 pub fn put_word(
     start: usize,
     len: usize,
@@ -167,6 +170,7 @@ pub fn put_differs(len: usize, book: usize, sheet: usize, out: &mut [u8], at: us
 }
 
 // The bytes of a text from a place on, in hexadecimal, and the line's end.
+// Kept with a place: it takes every one, also past the text's end.
 pub fn put_hex_line(text: &[u8], from: usize, out: &mut [u8], at: usize) -> usize
     requires { at + (2 * (length text.now - from) + 1) ≤ length out.old }
     ensures writes { Writes (hex_line (drop from text.now)) out.old out.new at result }

@@ -75,6 +75,7 @@ fn unite(cells: &mut [u64], top: usize, a: usize, b: usize, join: Join) -> Built
     let mut left = a;
     let mut right = b;
     let mut end = top;
+    // Kept as a `loop`: it goes along two terms at once, and ends by what it finds.
     loop {
         let step = next_member(cells, left, right, join);
         match step {

@@ -11,6 +11,7 @@ ghost use Rattle.laid.specs.Tables.{set_at};
 ghost use Rattle.names.specs.Bytes.{byte_at, starting, marking, found};
 ghost use Rattle.names.specs.Names.{told};
 
+// Kept beside lines::NEWLINE: this crate stands on none that prints.
 pub const NEWLINE: u8 = 10;
 
 // The names of the twelve sets, with the bracket that ends them.

@@ -72,6 +72,7 @@ fn chain(cells: &mut [u64], top: usize, a: usize, b: usize) -> Built
 {
     let mut last = a;
     let mut end = top;
+    // Kept as a `loop`: it goes down the links of a chain, which are listed in the lent cells above the top, since no heap is used.
     loop {
         let node = term::node_at(cells, last);
         if joins(node, Join::Then) {

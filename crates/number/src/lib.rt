@@ -42,6 +42,7 @@ pub struct Grouped {
 }
 
 // The paper's number of a refusal.
+// Kept as two functions, this and the next: From would give one of the two numbers.
 pub fn refusal_number(r: Refusal) -> usize
     ensures { result ≡ number r }
 {
@@ -145,6 +146,7 @@ pub fn read_field(bytes: &[u8], at: usize, lo: usize, hi: usize) -> Result<(usiz
 {
     let read = read_number(bytes, at);
     let got = read.taken;
+    // Document 01 names this form: the number reader's answer is taken apart by `let .. else`.
     let Ok((value, next)) = got else {
         return got;
     };

@@ -18,6 +18,7 @@ use verdict::Difference;
 pub const CELLS: usize = 4;
 
 // The code of a call that gave its answer.
+// Kept as numbers, here and below, since C reads them in its cells (include/lubiranguk.h).
 const GIVEN: usize = 0;
 
 // Whether there is such a rule.

@@ -8,6 +8,7 @@ ghost use Rattle.verdict.specs.Compare.{state_of, number_told};
 ghost use Rattle.pair.specs.Promises.{Numbered};
 
 // The table's state behind an item's number for it: 0 is the entry, which goes on as state 0 does, and q + 1 is state q.
+// Kept as a number: a cell of the work area holds it, and the definition `state_of` says what each is.
 pub fn state_of(q: usize) -> usize
     ensures { result ≡ state_of q }
 {

@@ -19,6 +19,7 @@ use steps::Extent;
 use vector::layout::{ITEMS, SHEETS_AT};
 
 // The row of item `i`: one step for each run of bytes that no range tells apart and that lead the table to one state.
+// Kept apart from row::fill_row: that one writes each run, this one reads where it ends.
 fn walk_row(
     index: &mut [u16],
     cells: &mut [u64],
@@ -53,6 +54,7 @@ fn walk_row(
 }
 
 // The rows of all items, those found on the way too.
+// Kept apart from filled::fill_rows: that one writes the targets that this one reads, and promises another thing.
 fn walk_rows(
     index: &mut [u16],
     cells: &mut [u64],

@@ -17,9 +17,11 @@ use term::{Built, Term, first_of, hold, kind_of, link_at, node_at, second_of};
 pub const POOL_CELLS: usize = POOL + RULES * TREE_NODES;
 
 // The length of its index: a head for each hash. The links of the chains stand in the cells.
+// Kept as an index of our own in lent memory: a map of the library takes its memory from a heap.
 pub const HEADS: usize = POOL;
 
 // The hash of a node.
+// `Fields` stays a clause: the fact has one name, and nodes are made by `rebuilt` of any numbers.
 fn hash_of(node: Term) -> usize
     requires { Fields node }
     ensures { result ≡ hash_of node }
@@ -35,6 +37,7 @@ fn find_cell(index: &[u16], cells: &[u64], top: usize, node: Term) -> Option<usi
     ensures { Looked cells.now top node result }
 {
     let mut next = index[hash_of(node)] as usize;
+    // Kept as a `while`: it follows the links of a chain to the 0 at its end, in lent cells of 16 bits; no index is counted.
     while 0 < next {
         let at = next - 1;
         if node_at(cells, at) == node {

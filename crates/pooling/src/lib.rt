@@ -40,6 +40,7 @@ fn copy_out(cells: &[u64], top: usize, i: usize, out: &mut [u64]) -> usize
     let mut start = out.len();
     out[0] = i as u64;
     let mut waiting = 1;
+    // Kept as a `while`: it works off a list that grows in a turn.
     while 0 < waiting {
         waiting -= 1;
         let at = out[waiting] as usize;

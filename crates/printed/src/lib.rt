@@ -62,6 +62,7 @@ fn print_turns<'a, P: Print + Eprint>(
     let mut from: usize = 0;
     let mut sum: usize = 0;
     let mut handed: usize = 0;
+    // Kept as a `loop`: each turn tells where the next one starts.
     loop {
         match cut_lines::next_part(count, labels, targets, text, from, sum, kinds, records, out) {
             Turn::Last(end) => return print_next(rt, book, text, handed, &out[0..end]),
@@ -74,8 +75,8 @@ fn print_turns<'a, P: Print + Eprint>(
     }
 }
 
-// Prints all that program cut prints for the bytes of its book and of its text, and answers how many that is; more bytes than a file may have stand for one that is missing or
-// too long.
+// Prints all that program cut prints for the bytes of its book and of its text, and answers how many that is; more bytes than a file may have
+// stand for one that is missing or too long.
 pub fn print_cut<'a, P: Print + Eprint>(
     rt: &P,
     book: &'a [u8],

@@ -13,6 +13,7 @@ use steps::Extent;
 use table::fill;
 
 // The row of item `i` goes into its 256 targets, run by run; the answer tells what is held then.
+// `Fillable` stays a clause: the fact has one name, and it is of areas that are lent.
 pub fn fill_row(
     index: &mut [u16],
     cells: &mut [u64],

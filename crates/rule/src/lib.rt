@@ -33,6 +33,7 @@ fn node_built(cells: &mut [u64], top: usize, node: Node, a: usize, b: usize) -> 
     requires { Operands node cells.old top a b }
     ensures { NodeBuilt node cells.old top a b cells.new result }
 {
+    // Kept as a `match`: each node has other arguments for what builds it.
     match node {
         Node::Nothing => normal::store(cells, top, Term::Nothing),
         Node::Empty => normal::store(cells, top, Term::Empty),

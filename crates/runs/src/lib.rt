@@ -39,6 +39,7 @@ fn runs_length(row: &[u8]) -> usize
 }
 
 // How many bytes a row takes.
+// The length stays a clause, here and below: an array of 256 would ask more than at most 256.
 pub fn row_length(row: &[u8]) -> usize
     requires { length row.now ≤ bytes }
     ensures { result ≡ length (write_row row.now) }

@@ -54,6 +54,7 @@ fn sheet(book: &[u8], out: &mut [u8]) -> Result<usize, Refusal>
 }
 
 // All that program sheet puts out for the bytes of its book: a sheet and where it ends, or the line of a refusal.
+// The room stays a clause: an array of just that length would ask more of callers.
 pub fn sheet_bytes(book: &[u8], out: &mut [u8]) -> Result<usize, Line>
     requires { longest_sheet ≤ length out.old }
     ensures { Puts (sheet_of book.now) out.old out.new result }

@@ -73,6 +73,7 @@ fn write_text(cells: &[u64], k: usize, area: &mut [u8]) -> usize
 }
 
 // What is answered once the walk is finished, with the text written if there is one.
+// `Blank` stays a clause: the fact has one name, and it is of an area that is lent.
 pub fn show<'a>(
     cells: &'a [u64],
     n: usize,

@@ -17,6 +17,7 @@ use vector::{Derived, Vector};
 
 // A book's `n` rules in normal form, put behind the `k` terms of a vector that the pool holds already; None where a rule or a part of one is too long.
 // Kept as a loop of its own beside that of `derive_vector`: a closure's contract for what makes the term would be longer than these lines.
+// `Opened` stays a clause: the fact has one name, and a struct of a checked book would have to lend its bytes all the same.
 pub fn add_rules(
     book: &[u8],
     n: usize,
@@ -48,6 +49,7 @@ pub fn add_rules(
 }
 
 // The vector of a book's `n` rules in normal form, in a pool with its index that holds nothing else; None where a rule or a part of one is too long.
+// The area's length stays two clauses: an array of just one length would ask more of callers.
 pub fn first_vector(book: &[u8], n: usize, index: &mut [u16], cells: &mut [u64]) -> Option<Derived>
     requires opened { Opened book.now n }
     requires work_length_in_bounds { work_length ≤ length cells.old }

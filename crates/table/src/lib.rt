@@ -14,6 +14,7 @@ use number::limits::{BYTES, RULES, STATES};
 pub const LONGEST_SHEET: usize = 3 + STATES * (3 + 3 * BYTES);
 
 // One value into the cells from `from` to `end`.
+// Kept beside the library's `fill`, by which it is made: docs/PROMISES.md names it.
 pub fn fill(cells: &mut [u8], from: usize, end: usize, value: u8)
     requires { (from ≤ end) × (end ≤ length cells.old) }
     ensures { cells.new ≡ written cells.old from (replicate (end - from) value) }
@@ -34,6 +35,7 @@ fn all_below(cells: &[u8], limit: usize) -> bool
 
 // Lent memory holds a table of `count` states.
 // The count is tested before it is multiplied, so that no product can wrap.
+// Kept as three parameters, here and in all calls: C lends them so, and the theorems of answers speak of the three.
 pub fn well_formed(count: usize, labels: &[u8], targets: &[u8]) -> bool
     ensures { Tests count labels.now targets.now result }
 {
@@ -44,6 +46,7 @@ pub fn well_formed(count: usize, labels: &[u8], targets: &[u8]) -> bool
 }
 
 // Where the run of one target that starts at `from` ends: the first place with another target, or `end`.
+// Kept as a part of one slice: callers go on in it from place to place, and the answer is a place there.
 pub fn run_end(targets: &[u8], from: usize, end: usize) -> usize
     requires { (from < end) × (end ≤ length targets.now) }
     ensures { RunTo targets.now from end result }

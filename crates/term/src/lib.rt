@@ -15,7 +15,7 @@ ghost use Rattle.term.specs.Compares.{Glanced};
 use number::limits::{TREE_NODES, WORK_CELLS};
 use std::cmp::Ordering;
 
-// A node of a term: a range's bounds, or the numbers of the cells of its children.
+// A node of a term: a range's bounds, or the numbers of the cells of its children, which are no boxes, since no memory is taken from a heap.
 #[derive(Clone, Copy, PartialEq, Eq)]
 pub enum Term {
     Nothing,
@@ -124,6 +124,7 @@ pub fn arity(t: Term) -> usize
     }
 }
 
+// Kept as a function and not as a From: a cell is packed of a node, a link and a bit, and From takes one value.
 fn pack(kind: u64, first: usize, second: usize, link: usize, bit: u64) -> u64
     requires kind_lt_kind_size { kind < kind_size }
     requires first_lt_field_size { first < field_size }
@@ -313,6 +314,7 @@ fn compare_parts(cells: &[u64], i: usize, j: usize) -> Ordering
     let mut waiting = 0usize;
     let mut a = i;
     let mut b = j;
+    // Kept as a `loop`: it goes along two terms by the list of what waits, and ends by what it finds.
     loop {
         let glance = compare_nodes(cells, a, b);
         match glance {

@@ -40,6 +40,7 @@ fn call<'a>(rt: &HostRuntime, case: Case, a: &'a [u8], b: &'a [u8], c: &'a [u8])
     let first = case.first;
     let second = case.second;
     let letter = case.call;
+    // Kept as a `match`: each call has other arguments.
     match letter {
         b'n' => bytes::tell_number(rt, number::read_number(a, first)),
         b'f' => bytes::tell_field(rt, number::read_field(a, 0, first, second)),

@@ -23,6 +23,7 @@ struct LineRead {
 }
 
 // The rules so far: how many, their nodes and their bytes.
+// The book's end stands beside its buffer, since no memory is taken from a heap.
 #[derive(Clone, Copy)]
 struct Sum {
     pub rules: usize,
@@ -136,6 +137,7 @@ fn colon(text: &[u8], at: usize, kind: usize) -> Result<(usize, usize), Wrong>
 }
 
 // A kind with one digit more; past the limit it stays one above it, however many digits follow.
+// Kept as a number past the limit: the line is read on, since a wrong byte further on is told first.
 fn longer(kind: usize, d: usize) -> usize
     requires { (kind ≤ kinds + 1) × (d ≤ 10) }
     ensures { Longer kind d result }

@@ -53,6 +53,7 @@ fn store(cells: &mut [u64], k: usize, v: Vector)
 }
 
 // The label of a vector's part, the rules from `from` up to `to`: 1 plus the first of them whose term matches the empty text, or 0.
+// Kept as a number: it is what stands in a table, where 0 is no rule.
 pub fn label_of(cells: &[u64], v: Vector, from: usize, to: usize) -> usize
     requires reads { Reads cells.now to v.at }
     requires from_le_to { from ≤ to }
