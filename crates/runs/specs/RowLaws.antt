@@ -1,9 +1,18 @@
 -- Laws of writing a row, for the code that works out its length and then writes it: what each step adds.
 -- Runs first, then rows, each with how long it can get.
-use Rattle.std.specs.Prelude.{ℕ, zero, suc, ◌+◌, ◌-◌, ◌*◌, ◌≤◌, ◌<◌, ◌≡◌, List, [], ◌∷◌, ◌++◌, length, get_or, replicate}
-use Rattle.std.proofs.Common.{add-one, one-add, arith, ap, ◌∙◌, append_assoc, length-append}
+use denote.Param.Members.{Mut}
+use Rattle.std.specs.Prelude.{ℕ, zero, suc, ◌+◌, ◌-◌, ◌*◌, ◌≤◌, ◌<◌, ◌≡◌, Bool, eqb, List, [], ◌∷◌, ◌++◌, length, get_or, drop, replicate, Some}
+use Rattle.std.specs.Fn.{ComputesOnPairs}
+use Rattle.std.specs.List.{IsChunkByPrefix}
+use Rattle.std.specs.Slice.Iter.{chunk_by_rest, chunk_by_steps}
+use Rattle.std.specs.declared.slice.ChunkBy.{ChunkBy}
+use Rattle.std.proofs.Common.{Bor, add-one, one-add, arith, refl, sym, ap, ◌∙◌, append_assoc, length-append}
+use Rattle.std.proofs.lemmas.Bool.{eqb-true, eqb-false}
+use Rattle.std.proofs.lemmas.Iterator.{YieldsList}
+use Rattle.std.proofs.lemmas.Iterator.Consumers.{YieldsList-from_shown}
 use Rattle.std.proofs.lemmas.List.{replicate-append-replicate}
-use Rattle.std.proofs.Math.Seq.{slice, slice-cons, slice_empty, take-length}
+use Rattle.std.proofs.Math.Seq.{slice, slice-cons, slice_empty, take-length, drop-append_seam}
+use Rattle.std.proofs.Math.ListN.{get_or-append}
 use native.Mathlib.Decide.{dec_lt}
 use Rattle.number.specs.Numbers.{write_number}
 use Rattle.number.proofs.NumberLaws.{width_most}
@@ -12,7 +21,7 @@ use Rattle.table.specs.Sheet.{Run, runs_of, write_runs, write_row}
 use Rattle.table.specs.Formed.{Ends}
 use Rattle.table.specs.SheetRuns.{runs_count, runs_from_lem}
 use Rattle.table.specs.Promises.{RunTo}
-use Rattle.runs.specs.Promises.{RunAt}
+use Rattle.runs.specs.Promises.{RunAt, FirstRun}
 
 -- ---- runs
 
@@ -108,37 +117,78 @@ row_is row = simp length-append
 pub row_short : (row : List ℕ) → length (write_row row) ≤ 3 + 6 * length row
 row_short row = omega (arith, row_is row, width_most (length (runs_of row)), runs_short (runs_of row), runs_count row)
 
--- ---- a part of a row, from `from` to `end`, as the code takes it run by run
+-- ---- a row, as the code takes it run by run
 
-pub runs_none : (t : List ℕ) (from end : ℕ) → from ≡ end → runs_of (slice from end t) ≡ []
+pub runs_none : (row : List ℕ) → length row ≡ 0 → runs_of row ≡ []
 unfolding runs_of
-runs_none t from end e = rw (e, slice_empty)
+runs_none [] none = refl
+runs_none (t ∷ ts) none = absurd (omega arith)
 
-pub runs_some : {t : List ℕ} {from end stop : ℕ} → RunAt t from end stop
-    → length (runs_of (slice from end t)) ≡ 1 + length (runs_of (slice stop end t))
-runs_some r = rw (r.runs, one-add)
+pub runs_some : {row rest : List ℕ} {len target : ℕ} → FirstRun row len target rest → length (runs_of row) ≡ 1 + length (runs_of rest)
+runs_some first = rw (first.runs, one-add)
 
-pub part_none : (t : List ℕ) (from end : ℕ) → from ≡ end → write_runs (runs_of (slice from end t)) ≡ []
+pub part_none : (row : List ℕ) → length row ≡ 0 → write_runs (runs_of row) ≡ []
 unfolding write_runs
-part_none t from end e = rw (runs_none t from end e)
+part_none row none = rw (runs_none row none)
 
-pub part_some : {t : List ℕ} {from end stop : ℕ} → RunAt t from end stop
-    → length (write_runs (runs_of (slice from end t)))
-    ≡ length (write_number (stop - from)) + length (write_number (get_or t from 0)) + length (write_runs (runs_of (slice stop end t)))
-part_some r = rw r.runs (runs_cons _ _)
+pub part_some : {row rest : List ℕ} {len target : ℕ} → FirstRun row len target rest
+    → length (write_runs (runs_of row)) ≡ length (write_number len) + length (write_number target) + length (write_runs (runs_of rest))
+part_some first = rw first.runs (runs_cons _ _)
 
-pub runs_written_none : (t : List ℕ) (from end : ℕ) (s : List ℕ) (at : ℕ) → from ≡ end
-    → Writes (write_runs (runs_of (slice from end t))) s s at at
-runs_written_none t from end s at e = rw (part_none t from end e) (writes_none s at)
+pub runs_written_none : (row s : List ℕ) (at : ℕ) → length row ≡ 0 → Writes (write_runs (runs_of row)) s s at at
+runs_written_none row s at none = rw (part_none row none) (writes_none s at)
 
 -- a run's length, its target, and the runs behind it
-pub runs_written : {t : List ℕ} {from end stop : ℕ} {s s1 s2 s3 : List ℕ} {at mid next last : ℕ}
-    → RunAt t from end stop → at ≤ length s → mid ≤ length s1
-    → Writes (write_number (stop - from)) s s1 at mid → Writes (write_number (get_or t from 0)) s1 s2 mid next
-    → Writes (write_runs (runs_of (slice stop end t))) s2 s3 next last
-    → Writes (write_runs (runs_of (slice from end t))) s s3 at last
+pub runs_written : {row rest : List ℕ} {len target : ℕ} {s s1 s2 s3 : List ℕ} {at mid next last : ℕ}
+    → FirstRun row len target rest → at ≤ length s → mid ≤ length s1
+    → Writes (write_number len) s s1 at mid → Writes (write_number target) s1 s2 mid next
+    → Writes (write_runs (runs_of rest)) s2 s3 next last
+    → Writes (write_runs (runs_of row)) s s3 at last
 unfolding write_runs
-runs_written r h k a b d = rw r.runs (writes_then h a (writes_then k b d))
+runs_written first h k a b d = rw first.runs (writes_then h a (writes_then k b d))
+
+-- ---- what `chunk_by` yields
+
+module _ (row run rest : List ℕ) (whole : row ≡ run ++ rest) (some : 0 < length run) (same : IsChunkByPrefix eqb row (length run)) where
+  all_alike : (d : ℕ) → d < length run → get_or row d 0 ≡ get_or row 0 0
+  all_alike zero h = refl
+  all_alike (suc d) h =
+      let e : suc d ≡ d + 1 = omega arith in
+      rw e (sym (eqb-true _ _ (same.0 d 0 (omega arith))) ∙ all_alike d (omega arith))
+
+  -- so many bytes are a run, as run_end finds it
+  run_to : RunTo row 0 (length row) (length run)
+  run_to = record {
+    onward = some;
+    within = omega (arith, ap length whole, length-append run rest);
+    alike = λ d _ h. all_alike d h;
+    other = λ h e. eqb-false _ _ (same.1 h 0) (all_alike (length run - 1) (omega arith) ∙ sym e);
+  }
+
+  left : drop (length run) row ≡ rest
+  left = ap (drop (length run)) whole ∙ drop-append_seam run rest
+
+  first_run : FirstRun row (length run) (get_or run 0 0) rest
+  first_run =
+      let first = run_at row 0 (length row) (omega (arith, run_to.within)) (omega arith) run_to in
+      let len : length run - 0 ≡ length run = omega arith in
+      let target : get_or row 0 0 ≡ get_or run 0 0 = ap (λ l. get_or l 0 0) whole ∙ get_or-append run rest 0 0 some in
+      record { runs = rw (row_whole, len, target, left) at first.runs }
+
+-- what `chunk_by` yields is the first run of what is left, where its closure compares
+pub run_first : {F : Type 0} (g : Mut F (Bor ℕ × (Bor ℕ × Unit {0})) Bool) (s t : ChunkBy ℕ F) (run : Bor (List ℕ))
+    → ((f : F) → ComputesOnPairs g eqb f) → chunk_by_steps g s (Some run) t → FirstRun (chunk_by_rest s) (length run.now) (get_or run.now 0 0) (chunk_by_rest t)
+run_first g s t run same step = first_run _ _ _ step.0 step.1 (step.2 eqb (same _)).1
+
+-- so it yields the runs of the row that it begins with
+pub runs_yielded : {F : Type 0} (g : Mut F (Bor ℕ × (Bor ℕ × Unit {0})) Bool) (s : ChunkBy ℕ F) (row : List ℕ) → chunk_by_rest s ≡ row
+    → ((f : F) → ComputesOnPairs g eqb f)
+    → YieldsList (chunk_by_steps g) (λ run. record { len = length run.now; target = get_or run.now 0 0 }) s (runs_of row)
+runs_yielded g s row begins same =
+    rw (sym begins) (YieldsList-from_shown (chunk_by_steps g) _ (λ s. runs_of (chunk_by_rest s))
+    (λ s t none. ap length (runs_none (chunk_by_rest s) none.0))
+    (λ s run t step. (run_first g s t run same step).runs)
+    s)
 
 -- a row's count of runs, and the runs
 pub row_written : (row : List ℕ) {n : ℕ} {s s1 s2 : List ℕ} {at mid last : ℕ} → n ≡ length (runs_of row) → at ≤ length s

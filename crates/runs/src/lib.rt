@@ -7,20 +7,11 @@ ghost use Rattle.number.specs.Limits.{bytes};
 ghost use Rattle.number.specs.Lists.{Writes};
 ghost use Rattle.table.specs.Sheet.{runs_of, write_runs, write_row};
 
-use table::run_end;
-
 // How many runs a row has.
-// Kept as a loop from run to run here and below: a slice has no `chunk_by` in the library.
 fn count_runs(row: &[u8]) -> usize
     ensures { result ≡ length (runs_of row.now) }
 {
-    let mut count: usize = 0;
-    let mut start = 0;
-    while start < row.len() {
-        start = run_end(row, start, row.len());
-        count += 1;
-    }
-    count
+    row.chunk_by(|a, b| a == b).count()
 }
 
 // How many bytes these runs take.
@@ -29,11 +20,8 @@ fn runs_length(row: &[u8]) -> usize
     ensures { result ≡ length (write_runs (runs_of row.now)) }
 {
     let mut len: usize = 0;
-    let mut start = 0;
-    while start < row.len() {
-        let stop = run_end(row, start, row.len());
-        len += number::number_width(stop - start) + number::number_width(row[start] as usize);
-        start = stop;
+    for run in row.chunk_by(|a, b| a == b) {
+        len += number::number_width(run.len()) + number::number_width(run[0] as usize);
     }
     len
 }
@@ -55,13 +43,10 @@ fn write_runs(row: &[u8], out: &mut [u8], at: usize) -> usize
     ensures { Writes (write_runs (runs_of row.now))
         out.old out.new at result }
 {
-    let mut start = 0;
     let mut next = at;
-    while start < row.len() {
-        let stop = run_end(row, start, row.len());
-        let at_target = number::write_number(stop - start, out, next);
-        next = number::write_number(row[start] as usize, out, at_target);
-        start = stop;
+    for run in row.chunk_by(|a, b| a == b) {
+        let at_target = number::write_number(run.len(), out, next);
+        next = number::write_number(run[0] as usize, out, at_target);
     }
     next
 }
