@@ -44,17 +44,15 @@ fn work_room() -> [u64; WORK_LENGTH]
     [0; WORK_LENGTH]
 }
 
-// A file of a case, as c000.book, into a buffer; the bytes that were read.
+// A file of a case, as c000.book, into a buffer; the bytes that were read. A file that is not there is empty; it is asked for first, since
+// read_named answers the buffer's length for it, and so for the longest sheets.
 fn read_case(rt: &HostRuntime, name: &[u8], buffer: &mut [u8]) -> usize
     ensures { result ≤ length buffer.new }
 {
-    let Ok(path) = str::from_utf8(name) else {
-        return 0;
-    };
-    match File::open(rt, path) {
-        Ok(file) => files::read_all(Ok(file), buffer),
-        Err(_) => 0,
+    if is_stored(rt, name) {
+        return files::read_named(rt, name, buffer);
     }
+    0
 }
 
 fn is_stored(rt: &HostRuntime, name: &[u8]) -> bool {
@@ -64,6 +62,8 @@ fn is_stored(rt: &HostRuntime, name: &[u8]) -> bool {
     }
 }
 
+// digit, say, say_refused and say_byte stand in test_typing too: each test program stands alone and prints by its own few lines.
+// Kept by hand: char::from_digit answers an Option of a char, where a name takes bytes.
 fn digit(n: usize) -> u8 {
     (48 + n % 10) as u8
 }
@@ -93,9 +93,9 @@ fn say_word(rt: &HostRuntime, start: usize, length: usize, rule: usize) {
 
 // The words that were put into the records, a line each.
 fn say_words(rt: &HostRuntime, records: &[usize; WORDS * RECORD_CELLS], n: usize) {
-    for k in 0..WORDS.min(n) {
-        let at = k * RECORD_CELLS;
-        say_word(rt, records[at], records[at + 1], records[at + 2]);
+    let (records, _) = records.as_chunks::<RECORD_CELLS>();
+    for &[start, length, rule] in records.iter().take(n) {
+        say_word(rt, start, length, rule);
     }
 }
 
@@ -208,6 +208,7 @@ fn say_back<'a>(rt: &HostRuntime, sheet: &[u8], count: usize, labels: &'a [u8], 
     }
 }
 
+// Kept beside test_paper's tell_same: each test program stands alone and prints by its own few lines, here with other words.
 fn say_same(rt: &HostRuntime, sheet: &[u8], out: &[u8]) {
     if sheet == out {
         say(rt, b" bytes, the same\n");

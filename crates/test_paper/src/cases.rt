@@ -1,9 +1,6 @@
 // Reading data/cases: a line's numbers, and areas of bytes.
 // What is wrong in the file shows as a wrong line of output; nothing here goes past a line or an area.
-ghost use Rattle.std.specs.Prelude.{◌≡◌, ◌<◌, ◌≤◌, length};
-
-use std::fs::File;
-use std::str;
+ghost use Rattle.std.specs.Prelude.{◌≡◌, ◌<◌, ◌≤◌, IfSome, length};
 
 // More than any area takes.
 const STEPS: usize = 1000000;
@@ -24,18 +21,6 @@ pub(crate) struct Case {
     pub(crate) third: usize,
 }
 
-pub(crate) fn read(rt: &HostRuntime, name: &[u8], buffer: &mut [u8]) -> usize
-    ensures { result ≤ length buffer.new }
-{
-    let Ok(path) = str::from_utf8(name) else {
-        return 0;
-    };
-    match File::open(rt, path) {
-        Ok(file) => files::read_all(Ok(file), buffer),
-        Err(_) => 0,
-    }
-}
-
 // The first place of a byte from a place on, or the end.
 pub(crate) fn find(text: &[u8], from: usize, byte: u8) -> usize
     ensures { result ≤ length text.now }
@@ -48,30 +33,34 @@ pub(crate) fn find(text: &[u8], from: usize, byte: u8) -> usize
     text.len()
 }
 
-// A digit, decimal or hexadecimal; 16 for what is none.
-fn digit(c: u8) -> usize
-    ensures { result ≤ 16 }
+// The value of a digit, decimal or hexadecimal.
+// Kept by hand: char::to_digit takes small letters too, which are no digits here.
+fn digit(c: u8) -> Option<usize>
+    ensures { IfSome result (λ d. d < 16) }
 {
-    find(b"0123456789ABCDEF", 0, c)
+    match c {
+        b'0'..=b'9' => Some((c - b'0') as usize),
+        b'A'..=b'F' => Some((c - b'A') as usize + 10),
+        _ => None,
+    }
 }
 
 // A decimal number, and the place behind what ends it.
+// Kept by hand: any byte ends it, its place is answered too, and a digit that would make it too large is passed over; parse takes a whole text.
 fn number(line: &[u8], from: usize) -> Got {
     let mut value: usize = 0;
     for i in from..line.len() {
-        let d = digit(line[i]);
-        if 9 < d {
-            return Got {
-                value: value,
-                next: i + 1,
-            };
-        }
-        if value < 100000 {
-            value = 10 * value + d;
+        match digit(line[i]) {
+            Some(d) if d < 10 => {
+                if value < 100000 {
+                    value = 10 * value + d;
+                }
+            }
+            _ => return Got { value, next: i + 1 },
         }
     }
     Got {
-        value: value,
+        value,
         next: line.len(),
     }
 }
@@ -82,7 +71,7 @@ pub(crate) fn case_of(line: &[u8], call: u8, from: usize) -> Case {
     let second = number(line, first.next);
     let third = number(line, second.next);
     Case {
-        call: call,
+        call,
         first: first.value,
         second: second.value,
         third: third.value,
@@ -100,6 +89,7 @@ struct Spot {
 }
 
 // A byte of two digits, the second of which is next, if there is room.
+// Kept by hand: the digits come one after the other, and from_str_radix takes a text, with a sign and small letters too.
 fn put(line: &[u8], spot: Spot, high: usize, area: &mut [u8]) -> usize
     requires { (high < 16) × (spot.at ≤ length area.old) }
     ensures { (result ≤ length area.new) × (length area.new ≡ length area.old) }
@@ -109,10 +99,9 @@ fn put(line: &[u8], spot: Spot, high: usize, area: &mut [u8]) -> usize
     if line.len() <= i {
         return at;
     }
-    let low = digit(line[i]);
-    if 15 < low {
+    let Some(low) = digit(line[i]) else {
         return at;
-    }
+    };
     if at == area.len() {
         return at;
     }
@@ -141,10 +130,9 @@ fn step(line: &[u8], c: u8, spot: Spot, area: &mut [u8]) -> Spot
         after.times = spot.times - 1;
         return after;
     }
-    let high = digit(c);
-    if 15 < high {
+    let Some(high) = digit(c) else {
         return after;
-    }
+    };
     after.at = put(line, spot, high, area);
     after.next = spot.next + 1;
     after

@@ -46,8 +46,8 @@ fn call<'a>(rt: &HostRuntime, case: Case, a: &'a [u8], b: &'a [u8], c: &'a [u8])
         b'f' => bytes::tell_field(rt, number::read_field(a, 0, first, second)),
         b'b' => bytes::tell_book(rt, a),
         b'k' => bytes::tell_kind(rt, a, first),
-        b's' => tables::tell_load(rt, a, STATES, TABLE_CELLS, first),
-        b'l' => tables::tell_load(rt, a, first, second, 0),
+        b's' => tables::tell_load(rt, a, STATES, TABLE_CELLS, first != 0),
+        b'l' => tables::tell_load(rt, a, first, second, false),
         b'w' => tables::tell_write(rt, first, a, b, second),
         b'c' => cuts::into_cells(rt, first, a, b, c, second, case.third),
         _ => cuts::into_records(rt, first, a, b, c, second),
@@ -90,6 +90,6 @@ fn run_lines(rt: &HostRuntime, text: &[u8]) {
 
 fn main(rt: HostRuntime) {
     let mut file = room();
-    let end = cases::read(&rt, b"cases", &mut file);
+    let end = files::read_named(&rt, b"cases", &mut file);
     run_lines(&rt, &file[0..end]);
 }

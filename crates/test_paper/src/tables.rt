@@ -9,6 +9,7 @@ const TARGETS: usize = 65536;
 
 const OUT: usize = 2048;
 
+// Kept beside test_cases::say_same: each test program stands alone and prints by its own few lines, here with other words.
 fn tell_same(rt: &HostRuntime, sheet: &[u8], out: &[u8]) {
     if sheet == out {
         say::text(rt, b"the same\n");
@@ -37,27 +38,27 @@ fn tell_back<'a>(
     }
 }
 
-fn load(rt: &HostRuntime, sheet: &[u8], labels: &mut [u8], targets: &mut [u8], back: usize) {
+fn load(rt: &HostRuntime, sheet: &[u8], labels: &mut [u8], targets: &mut [u8], back: bool) {
     match loading::load(sheet, labels, targets) {
         Ok(s) => {
-            if back == 0 {
-                say::counted(rt, s, b" states\n");
-            } else {
+            if back {
                 tell_back(rt, sheet, s, labels, targets);
+            } else {
+                say::counted(rt, s, b" states\n");
             }
         }
         Err(r) => {
-            if back == 0 {
-                say::refused(rt, r);
-            } else {
+            if back {
                 say::text(rt, b"refused\n");
+            } else {
+                say::refused(rt, r);
             }
         }
     }
 }
 
 // Into areas of so many labels and targets.
-pub(crate) fn tell_load(rt: &HostRuntime, sheet: &[u8], few: usize, many: usize, back: usize) {
+pub(crate) fn tell_load(rt: &HostRuntime, sheet: &[u8], few: usize, many: usize, back: bool) {
     let mut labels = [0u8; LABELS];
     let mut targets = crate::large_room();
     if LABELS < few {

@@ -12,6 +12,7 @@ fn say(rt: &HostRuntime, text: &[u8]) {
     files::print(rt, text);
 }
 
+// Kept beside test_programs' show and show_sheet, as say is: each test program stands alone and prints by its own few lines, here in the room for a book.
 fn show(rt: &HostRuntime, book: &[u8])
     requires { length book.now ≤ book_file }
 {

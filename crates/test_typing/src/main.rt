@@ -26,6 +26,8 @@ fn read_text(rt: &HostRuntime, name: &[u8], buffer: &mut [u8]) -> usize
     files::read_named(rt, name, buffer)
 }
 
+// digit, say, say_refused and say_byte stand in test_cases too: each test program stands alone and prints by its own few lines.
+// Kept by hand: char::from_digit answers an Option of a char, where a name takes bytes.
 fn digit(n: usize) -> u8 {
     (48 + n % 10) as u8
 }
