@@ -16,16 +16,9 @@ pub fn load(sheet: &[u8], labels: &mut [u8], targets: &mut [u8]) -> Result<usize
     if labels.len() < STATES || targets.len() < TABLE_CELLS {
         return Err(Refusal::Room);
     }
-    match read_sheet(sheet, labels, targets) {
-        Ok((count, _)) => {
-            labels[count..].fill(0);
-            targets[count * BYTES..].fill(0);
-            Ok(count)
-        }
-        Err(refusal) => {
-            labels.fill(0);
-            targets.fill(0);
-            Err(refusal)
-        }
-    }
+    let read = read_sheet(sheet, labels, targets);
+    let (count, _) = read.unwrap_or((0, 0));
+    labels[count..].fill(0);
+    targets[count * BYTES..].fill(0);
+    read.and(Ok(count))
 }

@@ -3,6 +3,7 @@
 use Prim.Native.Nat.{ℕ, zero, suc, ◌+◌, ◌*◌, ◌<◌, ◌≤◌}
 use native.Mathlib.Omega.{arith}
 use Rattle.std.specs.Prelude.{◌≡◌, refl, Bool, true, false, ◌||◌, ltb, get_or, take, Result, Ok, Err}
+use Rattle.std.specs.Result.{MatchResult, IsErrAnd}
 use Rattle.std.proofs.Math.Path.{sym, ap}
 use Rattle.std.proofs.Common.{subst, ◌∙◌, length-append, length-take-le, drop-drop, lt-ltb, le-ltb, eq-eqb, ne_eqb}
 use Rattle.std.proofs.Math.Option.Option.{some}
@@ -331,6 +332,19 @@ module _ (text : List ℕ) (f : Fault) (book out : List ℕ) (at : ℕ) (e : at 
 
   pub finish_out : Finishes text (Err f) book out (Err (Range at)) out
   finish_out = record { same = refl; gives = λ ls d a. out_given ls d a }
+
+-- what map_err made of the rules: they were whole where its answer is, and else their fault was told
+pub rules_ok : (rules : Rules) {y : Result Sum Refusal} {sum : Sum} (Q : Fault → Refusal → Type 0)
+    → MatchResult rules (λ x. y ≡ Ok x) (λ f. IsErrAnd y (Q f)) → y ≡ Ok sum → rules ≡ Ok sum
+rules_ok (Ok x) Q m e = cc
+rules_ok (Err f) Q m e = absurd (rw e at m)
+
+pub rules_err : (text book out : List ℕ) (rules : Rules) {y : Result Sum Refusal} {q : Refusal} (Q : Fault → Refusal → Type 0)
+    → MatchResult rules (λ x. y ≡ Ok x) (λ f. IsErrAnd y (Q f)) → y ≡ Err q
+    → ((f : Fault) (q : Refusal) → Q f q → q ≡ Range (start_of f.line 0 text)) → Finishes text rules book out (Err q) out
+rules_err text book out (Ok x) Q m e h = absurd (let z : ◌≡◌ {A = ℕ} 0 1 = cc in omega arith)
+rules_err text book out (Err f) {q = q} Q m e h =
+    rw (h f q (rw e at m)) (finish_out text f book out (start_of f.line 0 text) refl)
 
 module _ (text : List ℕ) (s : Sum) (book out : List ℕ) where
   none_given : (ls : List Line) → s.rules ≡ 0 → read_lines text ≡ typed ls → Summed ls (Ok s) book → Given text out (Err (Range 0)) out

@@ -189,10 +189,7 @@ fn finish(
     requires { Roomy rules book.now × (typed_area ≤ length out.old) }
     ensures { Finishes text.now rules book.now out.old result out.new }
 {
-    let sum = match rules {
-        Ok(sum) => sum,
-        Err(fault) => return Err(Refusal::Range(line_start(text, fault.line))),
-    };
+    let sum = rules.map_err(|fault| Refusal::Range(line_start(text, fault.line)))?;
     if sum.rules == 0 {
         return Err(Refusal::Range(0));
     }
