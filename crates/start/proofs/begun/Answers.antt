@@ -3,14 +3,8 @@
 use Rattle.start.specs.BeginLaws.{enters_long, enters_first}
 use Rattle.start.proofs.begun.Goals as goal
 
-pub first_vector-requires : goal.first_vector-requires
-first_vector-requires c = c.requires
-
 pub returns-in_default : goal.returns-in_default
 returns-in_default c = record { enters = enters_long c.first_vector.auto.cells c.in_default.ensures.too_long; follows = tt }
-
-pub hold_first-requires : goal.hold_first-requires
-hold_first-requires c = c.in-Some.ensures.first
 
 pub returns : goal.returns
 returns c =
