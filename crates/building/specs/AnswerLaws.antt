@@ -7,7 +7,7 @@ use Rattle.std.proofs.Common.{arith, subst, ◌∙◌, append-nil, lt-ltb, le-lt
 use Rattle.std.proofs.Math.Path.{refl, sym, ap}
 use Rattle.std.proofs.lemmas.List.{length-replicate}
 use Rattle.number.specs.declared.Refusal.{Refusal}
-use Rattle.number.specs.declared.Refusal.TheVariants.{Room, Long}
+use Rattle.number.specs.declared.Refusal.TheVariants.{Room}
 use Rattle.number.specs.Limits.{bytes, states, table_cells}
 use Rattle.number.specs.Lists.{written}
 use Rattle.number.specs.Refused.{Outcome, row_of}
@@ -18,15 +18,12 @@ use Rattle.book.specs.PlaceLaws.{checked_counts, checked_refused}
 use Rattle.table.specs.Table.{Table}
 use Rattle.table.specs.Calls.{padded, Filled, filled_with}
 use Rattle.walk.specs.Vectors.{normalised}
-use Rattle.walk.specs.Vectors.Vector.{TooLong, Terms}
-use Rattle.walk.specs.Walk.{rows, on_from, begin_by, walk_from}
+use Rattle.walk.specs.Walk.{rows, on_from, walk_from}
 use Rattle.vector.specs.Layout.{work_length}
-use Rattle.vector.specs.Vectors.{vector_of}
 use Rattle.vector.specs.Memory.{held_of}
 use Rattle.steps.specs.declared.Reached.{Reached}
-use Rattle.steps.specs.Step.{Begins}
 use Rattle.steps.specs.CallLaws.{went, halts}
-use Rattle.start.specs.Start.{rules_in, Opened}
+use Rattle.start.specs.Start.{rules_in, Opened, Enters}
 use Rattle.built.specs.Build.{alone, built_of, build_rules}
 use Rattle.built.specs.Calls.{build_read, build_book, filled_by, Building, build_of}
 use Rattle.row.specs.Fill.{Fillable}
@@ -44,28 +41,22 @@ fronted {o} {l} {t} x e = subst (TableComes o l t) e x.comes
 -- ---- from vector 0 to the table of the rules
 
 module _ (file : List ℕ) where
-  pub rules_long : {l t : List ℕ} → normalised (rules_in file) ≡ TooLong → Tabled (build_rules (rules_in file)) l t (Err (Long 0))
-  unfolding build_rules walk_from
-  rules_long e = record { comes = ap (λ v. built_of (on_from alone (begin_by alone v))) e }
-
-  module _ {n : ℕ} {s v : List ℕ} (terms : normalised (rules_in file) ≡ Terms (vector_of s n v)) {s₁ : List ℕ} {r : Result Reached Refusal} (x : Begins s n v s₁ r) where
+  module _ {n : ℕ} {s s₁ : List ℕ} {r : Result Reached Refusal} (x : Enters (normalised (rules_in file)) n s s₁ r) where
     pub rules_stop : {q : Refusal} {l t : List ℕ} → r ≡ Err q → Tabled (build_rules (rules_in file)) l t (Err q)
     unfolding build_rules walk_from
-    rules_stop e =
-        let m = x.begins alone (omega arith) refl in
-        record { comes = ap (λ w. built_of (on_from alone (begin_by alone w))) terms ∙ ap (λ w. built_of (on_from alone w)) (halts m e) }
+    rules_stop e = record { comes = ap (λ w. built_of (on_from alone w)) (halts (x.enters alone (omega arith) refl) e) }
 
     module _ {y : Reached} (e : r ≡ Ok y) where
       pub rules_fillable : {t : List ℕ} → table_cells ≤ length t → Fillable s₁ n y.held.top y.held.count t
       rules_fillable room =
-          let m = went (x.begins alone (omega arith) refl) e in
+          let m = went (x.enters alone (omega arith) refl) e in
           record { kept = m.kept; low = m.low; few = m.few; room = room }
 
       pub rules_table : built_of (rows alone states 0 (held_of s₁ n y.held.top y.held.count)) ≡ build_rules (rules_in file)
       unfolding build_rules walk_from
       rules_table =
-          let m = went (x.begins alone (omega arith) refl) e in
-          sym (ap (λ w. built_of (on_from alone (begin_by alone w))) terms ∙ ap (λ w. built_of (on_from alone w)) m.goes)
+          let m = went (x.enters alone (omega arith) refl) e in
+          sym (ap (λ w. built_of (on_from alone w)) m.goes)
 
 -- ---- from a book to the table of its rules
 

@@ -30,10 +30,7 @@ fn build_rules(
     ensures { Tabled (build_rules (rules_in book.now)) labels.new targets.new result }
 {
     let mut index = [0u16; HEADS];
-    let Some(first) = start::first_vector(book, n, &mut index, cells) else {
-        return Err(Refusal::Long(0));
-    };
-    let begun = steps::hold_first(cells, first.top, n, first.vector)?;
+    let begun = start::begun(book, n, &mut index, cells)?;
     filled::fill_table(&mut index, cells, begun.held, n, labels, targets)
 }
 

@@ -11,7 +11,9 @@ use Rattle.number.specs.Limits.{bytes}
 use Rattle.meaning.specs.Re.{Re}
 use Rattle.meaning.specs.Edges.{next_edge_all}
 use Rattle.meaning.proofs.EdgeLaws.{edge_all_after, edge_all_within}
-use Rattle.walk.specs.Walk.{Item, none, Held, nothing_held, Step, Way, come, step, row, rows}
+use Rattle.walk.specs.Vectors.{Vector}
+use Rattle.walk.specs.Vectors.Vector.{TooLong, Terms}
+use Rattle.walk.specs.Walk.{Item, none, Held, nothing_held, Step, Way, step, row, rows, begin_by}
 use Rattle.walk.specs.Walk.Step.{reached}
 use Rattle.walk.specs.StepLaws.{item, count, Came, came, reached_held, no_reach, Moved, step_moved}
 use Rattle.walk.specs.StepLaws.Came.{held, full, over, new}
@@ -69,16 +71,19 @@ first_sheet way v (new n l o) h j e = subst (λ (g : Held). (k : ℕ) → k < co
     go zero l = refl
     go (suc k) l = absurd (omega arith)
 
-pub beside_first : (targets : List ℕ) (v : List Re) (s : List ℕ) (n top m j : ℕ) → HasRow targets 0
-    → Went s n 0 items top m j (come (by_targets targets) 0 nothing_held (first_item v)) → Beside s n top m targets
-beside_first targets v s n top m j some went = record {
+begun_sheet : (way : Way) (u : Vector) (h : Held) (j : ℕ) → begin_by way u ≡ reached h j → (k : ℕ) → k < count h → (item h k).sheet ≡ 0
+begun_sheet way TooLong h j e = absurd (no_reach e)
+begun_sheet way (Terms v) h j e = first_sheet way v (came way 0 nothing_held (first_item v)) h j e
+
+pub beside_first : (targets : List ℕ) (u : Vector) (s : List ℕ) (n top m j : ℕ) → HasRow targets 0
+    → Went s n 0 items top m j (begin_by (by_targets targets) u) → Beside s n top m targets
+beside_first targets u s n top m j some went = record {
   kept = went.kept;
   low = went.low;
   few = went.few;
   sheets =
       held_sheets targets s n top m
-      (λ k l.
-      rw (first_sheet (by_targets targets) v (came (by_targets targets) 0 nothing_held (first_item v)) (held_of s n top m) j went.goes k l) some);
+      (λ k l. rw (begun_sheet (by_targets targets) u (held_of s n top m) j went.goes k l) some);
 }
 
 -- ---- a row, run by run

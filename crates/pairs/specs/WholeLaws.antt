@@ -3,41 +3,27 @@
 use Rattle.std.specs.Prelude.{ℕ, ◌≡◌, refl, List, Result, Ok, Err}
 use Rattle.std.proofs.Common.{sym, ap, subst, ◌∙◌, arith}
 use Rattle.number.specs.declared.Refusal.{Refusal}
-use Rattle.number.specs.declared.Refusal.TheVariants.{Long}
-use Rattle.meaning.specs.Re.{Re}
-use Rattle.walk.specs.Vectors.{Vector, normalised}
-use Rattle.walk.specs.Vectors.Vector.{TooLong, Terms}
-use Rattle.walk.specs.Walk.{nothing_held, Step, come, Walked, rows, begin_by, on_from, walk_from}
-use Rattle.walk.specs.Walk.Walked.{halted}
+use Rattle.walk.specs.Vectors.{normalised}
+use Rattle.walk.specs.Walk.{Step, Walked, rows, begin_by, on_from, walk_from}
 use Rattle.vector.specs.Layout.{items}
-use Rattle.vector.specs.Vectors.{vector_of}
 use Rattle.vector.specs.Memory.{held_of}
 use Rattle.steps.specs.declared.Extent.{Extent}
 use Rattle.steps.specs.declared.Reached.{Reached}
-use Rattle.steps.specs.Step.{first_item, Begins, Steps, Comes, Went}
-use Rattle.start.specs.Start.{rules_in}
+use Rattle.steps.specs.Step.{Steps, Comes, Went}
+use Rattle.start.specs.Start.{rules_in, Enters}
 use Rattle.pairs.specs.Promises.{by_targets, HasRow, Beside, Ends}
 use Rattle.pairs.specs.BesideLaws.{beside_first}
 
-walk_by : (targets : List ℕ) (rs : List Re) (v : Vector) → normalised rs ≡ v
-    → walk_from (by_targets targets) rs ≡ on_from (by_targets targets) (begin_by (by_targets targets) v)
-unfolding walk_from
-walk_by targets rs v e = ap (λ (u : Vector). on_from (by_targets targets) (begin_by (by_targets targets) u)) e
-
-pub walk_long : (targets file : List ℕ) → normalised (rules_in file) ≡ TooLong → walk_from (by_targets targets) (rules_in file) ≡ halted (Long 0)
-walk_long targets file e = walk_by targets (rules_in file) TooLong e
-
--- vector 0 was put into the pool
-module _ (targets file : List ℕ) (n : ℕ) (s v : List ℕ) (terms : normalised (rules_in file) ≡ Terms (vector_of s n v)) (s₁ : List ℕ) (x : Result Reached Refusal)
-    (begins : Begins s n v s₁ x) where
+module _ (targets file : List ℕ) (n : ℕ) (s s₁ : List ℕ) (x : Result Reached Refusal) (enters : Enters (normalised (rules_in file)) n s s₁ x) where
   abbrev first : Step
-  first = come (by_targets targets) 0 nothing_held (first_item (vector_of s n v))
+  first = begin_by (by_targets targets) (normalised (rules_in file))
 
   begun : Steps s n 0 items s₁ first x
-  begun = begins.begins (by_targets targets) (omega arith) refl
+  begun = enters.enters (by_targets targets) (omega arith) refl
 
   as_first : walk_from (by_targets targets) (rules_in file) ≡ on_from (by_targets targets) first
-  as_first = walk_by targets (rules_in file) (Terms (vector_of s n v)) terms
+  unfolding walk_from
+  as_first = refl
 
   pub walk_stops : (q : Refusal) → x ≡ Err q → Ends n targets s₁ (walk_from (by_targets targets) (rules_in file)) (Err q)
   walk_stops q e =
@@ -48,7 +34,7 @@ module _ (targets file : List ℕ) (n : ℕ) (s v : List ℕ) (terms : normalise
     went = subst (Comes s₁ n 0 items first) e begun.comes
 
     pub walk_beside : HasRow targets 0 → Beside s₁ n y.held.top y.held.count targets
-    walk_beside some = beside_first targets (vector_of s n v) s₁ n y.held.top y.held.count y.number some went
+    walk_beside some = beside_first targets (normalised (rules_in file)) s₁ n y.held.top y.held.count y.number some went
 
     pub walk_ends : (s₂ : List ℕ) (z : Result Extent Refusal) → Ends n targets s₂ (rows (by_targets targets) items 0 (held_of s₁ n y.held.top y.held.count)) z
         → Ends n targets s₂ (walk_from (by_targets targets) (rules_in file)) z

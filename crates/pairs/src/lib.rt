@@ -94,9 +94,6 @@ pub fn walk_from<'a>(
         (walk_from (by_targets targets.now) (rules_in book.now)) result }
 {
     let mut index = [0u16; HEADS];
-    let Some(first) = start::first_vector(book, n, &mut index, cells) else {
-        return Err(Refusal::Long(0));
-    };
-    let begun = steps::hold_first(cells, first.top, n, first.vector)?;
+    let begun = start::begun(book, n, &mut index, cells)?;
     walk_rows(&mut index, cells, begun.held, n, targets)
 }

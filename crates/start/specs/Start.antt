@@ -1,6 +1,8 @@
--- Vector 0 in the work area, book by book: what the code asks, and what it leaves.
+-- Vector 0 in the work area, book by book: what the code asks, and what it leaves; and how a walk begins there.
 -- What has come of a vector is told by its terms; the rules of one more book are put behind those before.
-use Rattle.std.specs.Prelude.{ℕ, ◌≡◌, Option, IfSome, IfNone, List, [], ◌++◌, length}
+use Rattle.std.specs.Prelude.{ℕ, ◌≤◌, ◌≡◌, Option, IfSome, IfNone, Result, List, [], ◌++◌, length}
+use Rattle.number.specs.declared.Refusal.{Refusal}
+use Rattle.number.specs.Limits.{pool}
 use Rattle.number.specs.Refused.{Answer}
 use Rattle.number.specs.Refused.Answer.{got, refused}
 use Rattle.meaning.specs.Re.{Re}
@@ -10,9 +12,12 @@ use Rattle.book.specs.Expression.{meant}
 use Rattle.pool.specs.Index.{Indexed}
 use Rattle.walk.specs.Vectors.{Vector}
 use Rattle.walk.specs.Vectors.Vector.{TooLong, Terms}
+use Rattle.walk.specs.Walk.{Way, begin_by}
 use Rattle.vector.specs.declared.Derived.{Derived}
 use Rattle.vector.specs.Vectors.{vector_of}
 use Rattle.vector.specs.Memory.{First}
+use Rattle.steps.specs.declared.Reached.{Reached}
+use Rattle.steps.specs.Step.{Steps}
 
 -- the expressions of a book's rules; of a refused book nothing is claimed
 abbrev pub rules_of_read : Answer Book → List Re
@@ -40,3 +45,7 @@ pub record Starts (u : Vector) (n : ℕ) (x s : List ℕ) (r : Option Derived) :
   pub terms : IfSome r (λ d. u ≡ Terms (vector_of s n d.vector.at))
   pub first : IfSome r (λ d. First s n d.top d.vector.at)
   pub indexed : IfSome r (λ d. Indexed x s d.top)
+
+-- the answer is the beginning of the walk from this vector 0, whatever its way, if that allows an item at all and as many terms as the pool takes
+pub record Enters (u : Vector) (n : ℕ) (s s' : List ℕ) (r : Result Reached Refusal) : Type 0 where
+  pub enters : (way : Way) → 1 ≤ way.limit → way.terms ≡ pool → Steps s n 0 way.limit s' (begin_by way u) r

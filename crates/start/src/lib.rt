@@ -1,4 +1,4 @@
-// Vector 0, put into the pool book by book: each rule's normal form is built in scratch above the pool and then put into it.
+// Vector 0, put into the pool book by book: each rule's normal form is built in scratch above the pool and then put into it. A walk begins there.
 // The places past the last rule hold Nothing's cell, so that vectors of the same books can be compared place by place.
 #![tactic(auto)]
 
@@ -9,9 +9,12 @@ ghost use Rattle.walk.specs.Vectors.{normalised};
 ghost use Rattle.vector.specs.Layout.{work_length};
 ghost use Rattle.vector.specs.Vectors.{vector_of};
 ghost use Rattle.vector.specs.Memory.{First};
-ghost use Rattle.start.specs.Start.{rules_in, Opened, fronts, Starts};
+ghost use Rattle.steps.specs.Step.{Follows};
+ghost use Rattle.start.specs.Start.{rules_in, Opened, fronts, Starts, Enters};
 
+use number::Refusal;
 use number::limits::RULES;
+use steps::Reached;
 use vector::layout::NOTHING_CELL;
 use vector::{Derived, Vector};
 
@@ -62,4 +65,24 @@ pub fn first_vector(book: &[u8], n: usize, index: &mut [u16], cells: &mut [u64])
         at: [NOTHING_CELL; RULES],
     };
     add_rules(book, n, index, cells, 0, none, 0)
+}
+
+// The beginning of the walk of a book's `n` rules, for building and comparing: vector 0 becomes item 0, in a pool with its index that holds nothing else.
+pub fn begun(
+    book: &[u8],
+    n: usize,
+    index: &mut [u16],
+    cells: &mut [u64],
+) -> Result<Reached, Refusal>
+    requires opened { Opened book.now n }
+    requires work_length_in_bounds { work_length ≤ length cells.old }
+    requires cells_len_bound { length cells.old ≤ work_cells }
+    requires indexed { Indexed index.old cells.old 0 }
+    ensures enters { Enters (normalised (rules_in book.now)) n cells.old cells.new result }
+    ensures follows { Follows index.new cells.new result }
+{
+    let Some(first) = first_vector(book, n, index, cells) else {
+        return Err(Refusal::Long(0));
+    };
+    steps::hold_first(cells, first.top, n, first.vector)
 }
