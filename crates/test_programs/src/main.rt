@@ -41,6 +41,7 @@ fn hex_room() -> [u8; 2 * LONGEST_SHEET + 1]
     [0; 2 * LONGEST_SHEET + 1]
 }
 
+// Kept beside test_rules' show and show_book, as say is: each test program stands alone and prints by its own few lines, here in the room for a sheet.
 fn show(rt: &HostRuntime, sheet: &[u8])
     requires { length sheet.now ≤ longest_sheet }
 {
