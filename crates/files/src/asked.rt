@@ -10,10 +10,7 @@ use transfer::INTERRUPTIONS;
 
 // A name as the library takes it.
 pub(crate) fn text(name: &[u8]) -> io::Result<&str> {
-    match str::from_utf8(name) {
-        Ok(text) => Ok(text),
-        Err(_) => Err(io::Error::from(ErrorKind::InvalidInput)),
-    }
+    str::from_utf8(name).map_err(|_| io::Error::from(ErrorKind::InvalidInput))
 }
 
 fn was_interrupted<T>(answer: &io::Result<T>) -> bool {

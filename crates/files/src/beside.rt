@@ -49,20 +49,13 @@ fn put_beside(name: &[u8], out: &mut [u8]) -> usize
     end + MARK
 }
 
-// One digit of a name, so far from its end.
-fn put_digit(path: &mut [u8], back: usize, number: usize)
-    requires { (0 < back) × (back ≤ length path.old) }
-{
-    let at = path.len() - back;
-    path[at] = (48 + number % 10) as u8;
-}
-
+// The three digits at the end of a name.
 fn put_number(path: &mut [u8], number: usize)
     requires { mark ≤ length path.old }
 {
-    put_digit(path, 3, number / 100);
-    put_digit(path, 2, number / 10);
-    put_digit(path, 1, number);
+    let at = path.len() - 3;
+    let mut digits = &mut path[at..];
+    let _ = write!(digits, "{number:03}");
 }
 
 // Makes the new file under the first of its names that no file has, so that none is written to or taken away that another run made.
