@@ -59,6 +59,7 @@ pub fn sheet_bytes(book: &[u8], out: &mut [u8]) -> Result<usize, Line>
     requires { longest_sheet ≤ length out.old }
     ensures { Puts (sheet_of book.now) out.old out.new result }
 {
+    // Kept as a match: the arm of a refusal writes its line to `out`, so each arm shows what stands there.
     match sheet(book, out) {
         Ok(end) => Ok(end),
         Err(refusal) => {
