@@ -106,12 +106,21 @@ pub fn derive_vector(
     })
 }
 
-// Whether item `k` has this sheet state and this vector.
+// Whether item `k` has this sheet state and this vector. Most items differ at one of the first places, so the numbers are compared where they
+// lie, up to the first that differs: `==` of two vectors looks at all of them, and a build can take half as long again by it.
 fn is_pair(cells: &[u64], k: usize, sheet: usize, v: Vector) -> bool
     requires { Within cells.now k }
     ensures { PairTold cells.now k sheet v.at result }
 {
-    cells[SHEETS_AT + k] as usize == sheet && load(cells, k) == v
+    if cells[SHEETS_AT + k] as usize != sheet {
+        return false;
+    }
+    for place in 0..RULES {
+        if cells[VECTORS_AT + k * RULES + place] as usize != v.at[place] {
+            return false;
+        }
+    }
+    true
 }
 
 // The first of the items below `count` with this sheet state and this vector.
