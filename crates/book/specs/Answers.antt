@@ -3,6 +3,7 @@
 use Rattle.std.specs.Prelude.{ℕ, zero, suc, cond, List, ltb, length, Option, Some, None, Result, Ok, Err}
 use Rattle.number.specs.Limits.{first_version, last_version, rules, kinds, nodes}
 use Rattle.number.specs.declared.Refusal.{Refusal}
+use Rattle.number.specs.declared.Refusal.TheVariants.{Input}
 use Rattle.number.specs.Refused.{Answer}
 use Rattle.number.specs.Refused.Answer.{got, refused}
 use Rattle.number.specs.Numbers.{field}
@@ -21,6 +22,11 @@ node_read (Err r) = refused r
 abbrev pub place_read : Result RulePlace Refusal → Answer RulePlace
 place_read (Ok p) = got p p.at
 place_read (Err r) = refused r
+
+-- why a number was not read; of one that was read nobody asks it
+abbrev pub refusal_of : Result (ℕ × ℕ) Refusal → Refusal
+refusal_of (Ok read) = Input
+refusal_of (Err r) = r
 
 module _ (file : List ℕ) where
   -- in a book of version v: a rule's kind, its node count and the place of its first node

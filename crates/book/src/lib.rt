@@ -5,7 +5,7 @@
 ghost use Rattle.std.specs.Prelude.{◌≡◌};
 ghost use Rattle.book.specs.Book.{allowed as allowed_of, takes as takes_of};
 ghost use Rattle.book.specs.Reads.{read_range, read_either, read_after, read_node};
-ghost use Rattle.book.specs.Answers.{node_read};
+ghost use Rattle.book.specs.Answers.{node_read, refusal_of};
 
 use number::limits::{
     CODE_ALT, CODE_AND, CODE_CAT, CODE_EITHER, CODE_EMPTY, CODE_NOT, CODE_NOTHING, CODE_RANGE,
@@ -44,7 +44,7 @@ pub fn read_node(book: &[u8], at: usize, version: usize) -> Result<(Node, usize)
     // Document 01 names this form: the number reader's answer is taken apart by `let .. else`. Those who read fields go by `?`.
     let number = read_number(book, at).taken;
     let Ok((code, next)) = number else {
-        return Err(number.unwrap_err());
+        return Err(refusal_of(number));
     };
     read_after(book, next, version, at, code)
 }
@@ -57,6 +57,17 @@ pub fn takes(n: Node) -> usize
         Node::Nothing | Node::Empty | Node::Range(_, _) | Node::Either(_) => 0,
         Node::Star | Node::Not => 1,
         Node::Cat | Node::Alt | Node::And => 2,
+    }
+}
+
+// The refusal of a number that was not read; no caller has one that was. Kept as a function that answers for every input, since docs/PROMISES.md
+// names it; an `unwrap_err` in its place would ask for a refusal.
+pub fn refusal_of(t: Result<(usize, usize), Refusal>) -> Refusal
+    ensures { result ≡ refusal_of t }
+{
+    match t {
+        Ok(_) => Refusal::Input,
+        Err(r) => r,
     }
 }
 
